@@ -1,0 +1,5 @@
+pub mod Ends
+pub mod Makings
+pub mod Tables
+pub mod Insides
+pub mod Trajectories
