@@ -1,0 +1,2 @@
+pub mod Fairs
+pub mod Bounds

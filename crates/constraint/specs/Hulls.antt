@@ -1,0 +1,53 @@
+-- Hulls of whole numbers, and squares of distances. Assumes nothing.
+use mathlib.Core.Bool.{Bool, cond, _&&_}
+use Prim.Native.Nat.{ℕ, zero, suc, _+_}
+use lib.IntN.{ℤ, pos, natAbs, sucℤ, predℤ, _-ℤ_, _*ℤ_}
+use lib.Signed.{leZ}
+use Rattle.std.specs.Numbers.{minZ, maxZ}
+use Rattle.std.specs.declared.option.Option.{Option}
+use Rattle.std.specs.declared.option.Option.the-variants.{Some, None}
+use Rattle.tube.specs.Tubes.{row}
+use Rattle.tube.specs.declared.row.Row.{Row}
+
+-- the first of n numbers, from v up, that passes the test
+unfoldable pub first : (ℤ → Bool) → ℤ → ℕ → Option ℤ
+first P v zero = None
+first P v (suc n) = cond (P v) (Some v) (first P (sucℤ v) n)
+
+-- the first of n numbers, from v down, that passes the test
+unfoldable pub last : (ℤ → Bool) → ℤ → ℕ → Option ℤ
+last P v zero = None
+last P v (suc n) = cond (P v) (Some v) (last P (predℤ v) n)
+
+-- how many numbers a row has
+abbrev pub count : Row → ℕ
+count r = natAbs (r .high -ℤ r .low) + 1
+
+abbrev pub between : Option ℤ → Option ℤ → Option Row
+between None b = None
+between (Some l) None = None
+between (Some l) (Some h) = Some (row l h)
+
+-- The least interval that holds the numbers of a row that pass the test, found by looking through them. It is never run:
+-- a row may have 2 to the power 30 numbers.
+unfoldable pub hull-of : (ℤ → Bool) → Row → Option Row
+unfolding first last
+hull-of P r = between (first P (r .low) (count r)) (last P (r .high) (count r))
+
+abbrev pub square : ℤ → ℤ
+square z = z *ℤ z
+
+-- the greatest and the least square of a distance from b, over the numbers of a row
+abbrev pub greatest-square : Row → ℤ → ℤ
+greatest-square r b = maxZ (square (r .low -ℤ b)) (square (r .high -ℤ b))
+
+abbrev pub least-square : Row → ℤ → ℤ
+least-square r b = cond (leZ (r .low) b && leZ b (r .high)) (pos 0) (minZ (square (r .low -ℤ b)) (square (r .high -ℤ b)))
+
+-- a distance from b whose square lies between two numbers
+abbrev pub in-ring : (inner outer b : ℤ) → ℤ → Bool
+in-ring inner outer b v = leZ inner (square (v -ℤ b)) && leZ (square (v -ℤ b)) outer
+
+-- the least interval that holds the numbers of a row at such a distance
+abbrev pub ring : (inner outer b : ℤ) → Row → Option Row
+ring inner outer b = hull-of (in-ring inner outer b)

@@ -1,0 +1,4 @@
+pub mod Makings
+pub mod Hulls
+pub mod Constraints
+pub mod Kinds
