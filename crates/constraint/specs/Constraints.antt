@@ -47,23 +47,34 @@ module _ (number c : ℕ) (low high : ℤ) where
   abbrev pub bound : Value
   bound = simple (λ p. leZ low (value-at p c) && leZ (value-at p c) high) c bounded
 
+-- the rows of a step: one is the sum of the other two
+pub record Sum : Type 0 where
+  pub from : Row
+  pub by : Row
+  pub to : Row
+
+-- a row cut with the sums, or with the differences, of the numbers of two others
+abbrev pub cut-sum : (own a b : Row) → Option Row
+cut-sum own a b = cut own (a .low +ℤ b .low) (a .high +ℤ b .high)
+
+abbrev pub cut-difference : (own a b : Row) → Option Row
+cut-difference own a b = cut own (a .low -ℤ b .high) (a .high -ℤ b .low)
+
+-- each row is cut as the others came in; where the sum has a number left, so have the other two
+abbrev pub summed : (from by to : Row) → Option Sum
+summed from by to =
+    elim (cut-sum to from by) [
+      None ↦ None
+    | Some left ↦ Some (record { from = valueOr (cut-difference from to by) from; by = valueOr (cut-difference by to from) by; to = left })
+    ]
+
 -- cell `to` is cell `from` plus cell `by`
 module _ (number from by to : ℕ) where
-  abbrev pub to-row : List Row → Option Row
-  to-row t = let a = cell t from in let s = cell t by in cut (cell t to) (a .low +ℤ s .low) (a .high +ℤ s .high)
-
-  abbrev pub from-row : List Row → Option Row
-  from-row t = let b = cell t to in let s = cell t by in cut (cell t from) (b .low -ℤ s .high) (b .high -ℤ s .low)
-
-  abbrev pub by-row : List Row → Option Row
-  by-row t = let a = cell t from in let b = cell t to in cut (cell t by) (b .low -ℤ a .high) (b .high -ℤ a .low)
-
-  -- where the first cut leaves a number, so do the other two
   abbrev pub stepped : List Row → Narrowed
   stepped t =
-      elim (to-row t) [
+      elim (summed (cell t from) (cell t by) (cell t to)) [
         None ↦ empty step-cause number to t
-      | Some b ↦ settled (set (set (set t to b) from (valueOr (from-row t) (cell t from))) by (valueOr (by-row t) (cell t by)))
+      | Some left ↦ settled (set (set (set t to (left .to)) from (left .from)) by (left .by))
       ]
 
   abbrev pub step : Value

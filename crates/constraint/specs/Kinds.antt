@@ -8,9 +8,10 @@ use Rattle.std.specs.declared.result.Result.{Result}
 use Rattle.std.specs.declared.result.Result.the-variants.{Ok, Err}
 use Rattle.tube.specs.declared.fault.MakingFault.{MakingFault}
 use Rattle.contractor.specs.Contractors.{Value}
-use Rattle.constraint.specs.Makings.{bound-fault}
-use Rattle.constraint.specs.Constraints.{bound}
+use Rattle.constraint.specs.Makings.{bound-fault, step-fault}
+use Rattle.constraint.specs.Constraints.{bound, step}
 use Rattle.constraint.specs.declared.bound.Bound.{Bound}
+use Rattle.constraint.specs.declared.step.Step.{Step}
 
 abbrev pub bound-value : Bound → Value
 bound-value k = bound (k .number) (k .cell) (k .span .low) (k .span .high)
@@ -25,3 +26,16 @@ pub record IsBound (k : Bound) (number cell : ℕ) (low high : ℤ) : Type 0 whe
 abbrev pub MadeBound : (number cell : ℕ) (low high : ℤ) → Result Bound MakingFault → Type 0
 MadeBound number cell low high (Ok k) = (bound-fault cell low high ≡ None) × IsBound k number cell low high
 MadeBound number cell low high (Err e) = bound-fault cell low high ≡ Some e
+
+abbrev pub step-value : Step → Value
+step-value k = step (k .number) (k .from) (k .by) (k .to)
+
+pub record IsStep (k : Step) (number from by to : ℕ) : Type 0 where
+  pub same-number : k .number ≡ number
+  pub same-from : k .from ≡ from
+  pub same-by : k .by ≡ by
+  pub same-to : k .to ≡ to
+
+abbrev pub MadeStep : (number from by to : ℕ) → Result Step MakingFault → Type 0
+MadeStep number from by to (Ok k) = (step-fault from by to ≡ None) × IsStep k number from by to
+MadeStep number from by to (Err e) = step-fault from by to ≡ Some e

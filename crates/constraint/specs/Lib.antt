@@ -1,4 +1,5 @@
-pub mod Makings
-pub mod Hulls
 pub mod Constraints
+pub mod Hulls
 pub mod Kinds
+pub mod Makings
+pub mod Sums

@@ -20,10 +20,17 @@ is-cell c = leb c last-cell
 abbrev pub bound-fault : (cell : ℕ) (low high : ℤ) → Option MakingFault
 bound-fault cell low high = cond (not (is-cell cell)) (Some CellBeyondTube) (cond (not (spans low high)) (Some BadValue) None)
 
+abbrev pub are-cells : (from by to : ℕ) → Bool
+are-cells from by to = is-cell from && (is-cell by && is-cell to)
+
+abbrev pub are-apart : (from by to : ℕ) → Bool
+are-apart from by to = not (eqb from by) && (not (eqb from to) && not (eqb by to))
+
+abbrev pub are-step-cells : (from by to : ℕ) → Bool
+are-step-cells from by to = are-cells from by to && are-apart from by to
+
 abbrev pub step-fault : (from by to : ℕ) → Option MakingFault
-step-fault from by to =
-    cond (not (is-cell from && is-cell by && is-cell to)) (Some CellBeyondTube)
-    (cond (eqb from by || eqb from to || eqb by to) (Some EqualCells) None)
+step-fault from by to = cond (not (are-cells from by to)) (Some CellBeyondTube) (cond (not (are-apart from by to)) (Some EqualCells) None)
 
 -- a coordinate of a beacon
 abbrev pub is-coordinate : ℤ → Bool

@@ -8,6 +8,8 @@ use tube::IntervalPartialEq;
 
 mod contracting;
 
+pub use contracting::BoundContractor;
+
 #[derive(Clone, Copy, Debug, PartialEq)]
 pub struct Bound {
     number: u16,

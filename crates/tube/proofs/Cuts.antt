@@ -1,5 +1,5 @@
 -- What a cut leaves. Assumes nothing.
-use mathlib.Core.Path.{_≡_, refl}
+use mathlib.Core.Path.{_≡_, refl, ap, _∙_}
 use mathlib.Core.Bool.{Bool, true, false, cond}
 use native.Mathlib.Omega.{arith}
 use lib.IntN.{ℤ}
@@ -37,7 +37,11 @@ by-order r low high true e =
 by-order r low high false e = λ v i l h. leZ-false (maxZ (r .low) low) (minZ (r .high) high) e (omega (arith, ints, clamps))
 
 pub cut-is : (r : Row) (low high : ℤ) → CutOf r low high (cut r low high)
+unfolding cut
 cut-is r low high = by-order r low high (leZ (maxZ (r .low) low) (minZ (r .high) high)) refl
+
+pub same-cut : (r : Row) (low low′ high high′ : ℤ) → low ≡ low′ → high ≡ high′ → cut r low high ≡ cut r low′ high′
+same-cut r low low′ high high′ l h = ap (λ x. cut r x high) l ∙ ap (cut r low′) h
 
 -- a number that is cut and left lies between the ends
 pub cut-one : (v low high : ℤ) (s : Row) → Cut (row v v) low high s → (low ≤ℤ v) × (v ≤ℤ high)

@@ -75,5 +75,5 @@ abbrev pub from-to : ℤ → ℤ → Option Row
 from-to low high = cond (leZ low high) (Some (row low high)) None
 
 -- what a row shares with the numbers from low to high
-abbrev pub cut : Row → ℤ → ℤ → Option Row
+unfoldable pub cut : Row → ℤ → ℤ → Option Row
 cut r low high = from-to (maxZ (r .low) low) (minZ (r .high) high)
