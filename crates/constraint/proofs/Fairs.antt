@@ -6,9 +6,11 @@ use native.Mathlib.Omega.{arith}
 use Prim.Native.Nat.{ℕ, _+_, _≤_, _<_}
 use lib.IntN.{ℤ}
 use lib.ListN.{length}
-use Rattle.tube.specs.Tubes.{Trajectory, is-tube, Lies, Inside, single}
+use Rattle.std.proofs.shelf.Tests.{both-ways}
+use Rattle.tube.specs.Tubes.{Trajectory, is-tube, Lies, single}
 use Rattle.tube.specs.declared.row.Row.{Row}
 use Rattle.tube.proofs.Insides.{inside-same}
+use Rattle.tube.proofs.Narrower.{Narrower}
 use Rattle.contractor.specs.Contractors.{Value, Narrowed, Fair, Keeps, Accepted}
 use Rattle.contractor.proofs.Uses.{allowed}
 use Rattle.constraint.specs.Makings.{last-cell}
@@ -25,12 +27,12 @@ module _ (relation : List ℤ → Bool) (greatest : ℕ) (narrowed : List Row �
     placed = (omega arith, within);
   }
 
-  pub fair-settled : (u : List Row) → is-tube u ≡ true → Inside u t → ((p : Trajectory) → Lies t p → relation p ≡ true → Lies u p) → ((p : Trajectory) → t ≡ single p → relation p ≡ false → ⊥) → Fair (simple relation greatest narrowed) t (settled u)
-  fair-settled u tube inside holds decides = record {
-    tube = tube;
-    inside = inside;
+  pub fair-settled : (u : List Row) → Narrower t u → ((p : Trajectory) → Lies t p → relation p ≡ true → Lies u p) → ((p : Trajectory) → t ≡ single p → relation p ≡ true) → Fair (simple relation greatest narrowed) t (settled u)
+  fair-settled u n holds obeys = record {
+    tube = n .tube;
+    inside = n .inside;
     loses-none = λ p l r. (holds p l r, tt);
-    decides = λ p e r. absurd (decides p e r);
+    decides = λ p e r. absurd (both-ways (relation p) r (obeys p e));
     calls = omega arith;
     placed = tt;
   }

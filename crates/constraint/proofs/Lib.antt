@@ -1,2 +1,5 @@
-pub mod Fairs
 pub mod Bounds
+pub mod Fairs
+pub mod Singles
+pub mod Steps
+pub mod Sums
