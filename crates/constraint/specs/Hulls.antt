@@ -1,7 +1,7 @@
 -- Hulls of whole numbers, and squares of distances. Assumes nothing.
 use mathlib.Core.Bool.{Bool, cond, _&&_}
 use Prim.Native.Nat.{ℕ, zero, suc, _+_}
-use lib.IntN.{ℤ, pos, natAbs, sucℤ, predℤ, _-ℤ_, _*ℤ_}
+use lib.IntN.{ℤ, pos, natAbs, _+ℤ_, _-ℤ_, _*ℤ_}
 use lib.Signed.{leZ}
 use Rattle.std.specs.Numbers.{minZ, maxZ}
 use Rattle.std.specs.declared.option.Option.{Option}
@@ -9,15 +9,17 @@ use Rattle.std.specs.declared.option.Option.the-variants.{Some, None}
 use Rattle.tube.specs.Tubes.{row}
 use Rattle.tube.specs.declared.row.Row.{Row}
 
--- the first of n numbers, from v up, that passes the test
-unfoldable pub first : (ℤ → Bool) → ℤ → ℕ → Option ℤ
-first P v zero = None
-first P v (suc n) = cond (P v) (Some v) (first P (sucℤ v) n)
+-- the first of n numbers of a sequence, from number k on, that passes the test
+unfoldable pub first : (ℤ → Bool) → (ℕ → ℤ) → (k n : ℕ) → Option ℤ
+first P at k zero = None
+first P at k (suc n) = cond (P (at k)) (Some (at k)) (first P at (k + 1) n)
 
--- the first of n numbers, from v down, that passes the test
-unfoldable pub last : (ℤ → Bool) → ℤ → ℕ → Option ℤ
-last P v zero = None
-last P v (suc n) = cond (P v) (Some v) (last P (predℤ v) n)
+-- the numbers of a row, from its low end up and from its high end down
+abbrev pub up-from : Row → ℕ → ℤ
+up-from r k = r .low +ℤ pos k
+
+abbrev pub down-from : Row → ℕ → ℤ
+down-from r k = r .high -ℤ pos k
 
 -- how many numbers a row has
 abbrev pub count : Row → ℕ
@@ -31,8 +33,8 @@ between (Some l) (Some h) = Some (row l h)
 -- The least interval that holds the numbers of a row that pass the test, found by looking through them. It is never run:
 -- a row may have 2 to the power 30 numbers.
 unfoldable pub hull-of : (ℤ → Bool) → Row → Option Row
-unfolding first last
-hull-of P r = between (first P (r .low) (count r)) (last P (r .high) (count r))
+unfolding first
+hull-of P r = between (first P (up-from r) 0 (count r)) (first P (down-from r) 0 (count r))
 
 abbrev pub square : ℤ → ℤ
 square z = z *ℤ z
