@@ -1,12 +1,14 @@
 -- Hulls of whole numbers, and squares of distances. Assumes nothing.
 use mathlib.Core.Bool.{Bool, cond, _&&_}
-use Prim.Native.Nat.{ℕ, zero, suc, _+_}
+use Prim.Native.Nat.{ℕ, zero, suc, _+_, _*_, _≤_, _<_}
 use lib.IntN.{ℤ, pos, natAbs, _+ℤ_, _-ℤ_, _*ℤ_}
-use lib.Signed.{leZ}
+use lib.Signed.{_≤ℤ_, leZ}
 use Rattle.std.specs.Numbers.{minZ, maxZ}
+use Rattle.std.specs.Orderings.{Decides}
 use Rattle.std.specs.declared.option.Option.{Option}
 use Rattle.std.specs.declared.option.Option.the-variants.{Some, None}
-use Rattle.tube.specs.Tubes.{row}
+use Rattle.tube.specs.Spans.{reach}
+use Rattle.tube.specs.Tubes.{row, hull}
 use Rattle.tube.specs.declared.row.Row.{Row}
 
 -- the first of n numbers of a sequence, from number k on, that passes the test
@@ -51,5 +53,33 @@ abbrev pub in-ring : (inner outer b : ℤ) → ℤ → Bool
 in-ring inner outer b v = leZ inner (square (v -ℤ b)) && leZ (square (v -ℤ b)) outer
 
 -- the least interval that holds the numbers of a row at such a distance
-abbrev pub ring : (inner outer b : ℤ) → Row → Option Row
-ring inner outer b = hull-of (in-ring inner outer b)
+unfoldable pub ring : (inner outer b : ℤ) → Row → Option Row
+unfolding hull-of
+ring inner outer b r = hull-of (in-ring inner outer b) r
+
+-- the greatest distance whose square is at most `outer`, which is not negative
+pub record Farthest (outer r : ℤ) : Type 0 where
+  pub above : pos 0 ≤ℤ r
+  pub below : r ≤ℤ pos (2 * reach)
+  pub decides : (d : ℤ) → Decides (leZ (square d) outer) (pos (natAbs d) ≤ℤ r)
+
+-- the least distance whose square is at least `inner`
+pub record Nearest (inner r : ℤ) : Type 0 where
+  pub above : pos 0 ≤ℤ r
+  pub below : r ≤ℤ pos (2 * reach)
+  pub decides : (d : ℤ) → Decides (leZ inner (square d)) (r ≤ℤ pos (natAbs d))
+
+-- the whole root of n, rounded down
+pub record Root (n r : ℕ) : Type 0 where
+  pub below : r * r ≤ n
+  pub above : n < (r + 1) * (r + 1)
+
+-- the least row that holds what is left of either, if anything is
+abbrev pub joined : Option Row → Option Row → Option Row
+joined None o = o
+joined (Some r) None = Some r
+joined (Some r) (Some s) = Some (hull r s)
+
+-- the greatest square of a difference of two coordinates, and of a distance
+abbrev pub greatest : ℕ
+greatest = 1152921504606846976

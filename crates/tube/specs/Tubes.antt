@@ -77,3 +77,7 @@ from-to low high = cond (leZ low high) (Some (row low high)) None
 -- what a row shares with the numbers from low to high
 unfoldable pub cut : Row → ℤ → ℤ → Option Row
 cut r low high = from-to (maxZ (r .low) low) (minZ (r .high) high)
+
+-- the least row that holds two
+abbrev pub hull : Row → Row → Row
+hull r s = row (minZ (r .low) (s .low)) (maxZ (r .high) (s .high))

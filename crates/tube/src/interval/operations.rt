@@ -1,7 +1,7 @@
 // Making an interval, reading its ends, and cutting it.
 ghost use mathlib.Core.Path.{_≡_};
 ghost use Rattle.tube.specs.Intervals.{row-of, row-if-any, row-if-made, made};
-ghost use Rattle.tube.specs.Tubes.{cut};
+ghost use Rattle.tube.specs.Tubes.{cut, hull};
 use super::Interval;
 use crate::fault::MakingFault;
 use crate::row::Row;
@@ -57,6 +57,16 @@ impl Interval {
             Some(Interval { low, high })
         } else {
             None
+        }
+    }
+
+    // The least interval that holds both.
+    pub fn hull(self, other: Self) -> Self
+        ensures { λ r. ⌜ row-of r ≡ hull (row-of self) (row-of other) ⌝ }
+    {
+        Interval {
+            low: self.low.min(other.low),
+            high: self.high.max(other.high),
         }
     }
 }
