@@ -1,6 +1,7 @@
 pub mod Bounds
 pub mod Fairs
 pub mod Hulls
+pub mod Ranges
 pub mod Rings
 pub mod Singles
 pub mod Squares

@@ -59,3 +59,28 @@ square-bound z low high =
     let n : natAbs z ≤ 1073741824 = ⊎-elim (λ e. omega (arith, ints, e)) (λ e. omega (arith, ints, e)) (sign-cases z) in
     let m = mul-le (natAbs z) (natAbs z) 1073741824 1073741824 n n in
     subst (λ y. y ≤ℤ pos 1152921504606846976) (sym (square-is z)) (omega (arith, ints))
+
+-- a number farther from 0 has no smaller square
+pub square-farther : (d e : ℤ) → natAbs d ≤ natAbs e → square d ≤ℤ square e
+square-farther d e n =
+    let m = mul-le (natAbs d) (natAbs d) (natAbs e) (natAbs e) n n in
+    subst (λ y. y ≤ℤ square e) (sym (square-is d)) (subst (λ y. pos (natAbs d * natAbs d) ≤ℤ y) (sym (square-is e)) (omega (arith, ints)))
+
+-- on either side of 0
+pub square-up : (d e : ℤ) → pos 0 ≤ℤ d → d ≤ℤ e → square d ≤ℤ square e
+square-up d e h k = square-farther d e (by-signs (sign-cases d) (sign-cases e))
+  where
+    by-signs : (d ≡ pos (natAbs d)) ⊎ (d ≡ negℤ (pos (natAbs d))) → (e ≡ pos (natAbs e)) ⊎ (e ≡ negℤ (pos (natAbs e))) → natAbs d ≤ natAbs e
+    by-signs (inl s) (inl r) = omega (arith, ints)
+    by-signs (inl s) (inr r) = omega (arith, ints)
+    by-signs (inr s) (inl r) = omega (arith, ints)
+    by-signs (inr s) (inr r) = omega (arith, ints)
+
+pub square-down : (d e : ℤ) → d ≤ℤ pos 0 → e ≤ℤ d → square d ≤ℤ square e
+square-down d e h k = square-farther d e (by-signs (sign-cases d) (sign-cases e))
+  where
+    by-signs : (d ≡ pos (natAbs d)) ⊎ (d ≡ negℤ (pos (natAbs d))) → (e ≡ pos (natAbs e)) ⊎ (e ≡ negℤ (pos (natAbs e))) → natAbs d ≤ natAbs e
+    by-signs (inl s) (inl r) = omega (arith, ints)
+    by-signs (inl s) (inr r) = omega (arith, ints)
+    by-signs (inr s) (inl r) = omega (arith, ints)
+    by-signs (inr s) (inr r) = omega (arith, ints)
