@@ -1,6 +1,8 @@
 pub mod Bounds
 pub mod Fairs
 pub mod Hulls
+pub mod Machine
+pub mod Places
 pub mod Ranges
 pub mod Rings
 pub mod Singles

@@ -16,10 +16,9 @@ use Rattle.std.proofs.shelf.Tests.{and-parts, and-from, and-cases, both-ways, c
 use Rattle.std.proofs.shelf.Ways.{tells}
 use Rattle.tube.specs.Tubes.{Trajectory, row, is-tube, In, Within, Lies, single, cell, value-at}
 use Rattle.tube.specs.declared.row.Row.{Row}
-use Rattle.tube.proofs.Ends.{spanned}
 use Rattle.tube.proofs.Narrower.{narrower-same, narrower-set}
 use Rattle.tube.proofs.Orders.{leZ-true, leZ-false, leZ-from}
-use Rattle.tube.proofs.Tables.{tube, interval-at}
+use Rattle.tube.proofs.Tables.{ordered-at}
 use Rattle.tube.proofs.Trajectories.{lies-at, lies-set}
 use Rattle.contractor.specs.Contractors.{Fair, Keeps}
 use Rattle.constraint.specs.Makings.{last-cell, is-cell}
@@ -33,6 +32,7 @@ use Rattle.constraint.proofs.Squares.{square-above, square-up, square-down}
 -- ---- the greatest and the least square over a row
 
 pub greatest-is : (r : Row) (b v : ℤ) → In r v → square (v -ℤ b) ≤ℤ greatest-square r b
+unfolding greatest-square
 greatest-is r b v i =
     let a = i .above in
     let c = i .below in
@@ -41,6 +41,7 @@ greatest-is r b v i =
     (λ l. let s = square-up (v -ℤ b) (r .high -ℤ b) (omega (arith, ints)) (omega (arith, ints)) in omega (arith, ints, clamps))
 
 pub least-is : (r : Row) (b v : ℤ) → In r v → least-square r b ≤ℤ square (v -ℤ b)
+unfolding least-square
 least-is r b v i =
     let a = i .above in
     let c = i .below in
@@ -56,6 +57,7 @@ module _ (r : Row) (b v : ℤ) (o : Only r v) where
   is-row = ap (λ l. row l (r .high)) (o .low) ∙ ap (row v) (o .high)
 
   pub greatest-one : greatest-square r b ≡ square (v -ℤ b)
+  unfolding greatest-square
   greatest-one = ap (λ q. greatest-square q b) is-row ∙ omega (arith, ints, clamps)
 
   least-at : (e : Bool) → (leZ v b && leZ b v) ≡ e → cond e (pos 0) (minZ (square (v -ℤ b)) (square (v -ℤ b))) ≡ square (v -ℤ b)
@@ -68,6 +70,7 @@ module _ (r : Row) (b v : ℤ) (o : Only r v) where
   least-at false e = omega (arith, ints, clamps)
 
   pub least-one : least-square r b ≡ square (v -ℤ b)
+  unfolding least-square
   least-one = ap (λ q. least-square q b) is-row ∙ least-at (leZ v b && leZ b v) refl
 
 -- ---- one axis
@@ -102,8 +105,8 @@ module _ (nearest farthest b c : ℤ) (other : Row) where
       let l = least-one other c w o in
       record { above = omega (arith, ints); below = omega (arith, ints) }
 
-  pub axis-hull : (own : Row) → own .low ≤ℤ own .high → HullOf Passes own (ring (square nearest -ℤ greatest-square other c) (square farthest -ℤ least-square other c) b own)
-  unfolding ring
+  pub axis-hull : (own : Row) → own .low ≤ℤ own .high → HullOf Passes own (axis-row nearest farthest own other b c)
+  unfolding ring axis-row
   axis-hull own o = hull-of-is Passes own o
 
 -- a hull lies in its row, with its ends in order
@@ -165,14 +168,11 @@ module _ (number x y : ℕ) (bx by nearest farthest : ℤ) where
         (λ p l e. lies-set (set t x v) p y w (lies-set t p x v l (k .holds (value-at p x) (lies-at t p x x-in l) (x-passes p l e))) (m .holds (value-at p y) (lies-at t p y y-in l) (y-passes p l e)))
         (obeys v k)
 
-    ordered : (c : ℕ) → c < length t → cell t c .low ≤ℤ cell t c .high
-    ordered c l = spanned (cell t c .low) (cell t c .high) (interval-at t c l (tube t h .each)) .ordered
-
     pub range-fair : Fair (range number x y bx by nearest farthest) t (ranged number x y bx by nearest farthest t)
     range-fair =
         by-hulls (x-row number x y bx by nearest farthest t) (y-row number x y bx by nearest farthest t)
-        (axis-hull nearest farthest bx by (cell t y) (cell t x) (ordered x x-in))
-        (axis-hull nearest farthest by bx (cell t x) (cell t y) (ordered y y-in))
+        (axis-hull nearest farthest bx by (cell t y) (cell t x) (ordered-at t x h x-in))
+        (axis-hull nearest farthest by bx (cell t x) (cell t y) (ordered-at t y h y-in))
 
   pub range-keeps : is-cell x ≡ true → is-cell y ≡ true → Keeps (range number x y bx by nearest farthest)
   range-keeps small-x small-y =

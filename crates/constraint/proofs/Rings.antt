@@ -1,5 +1,5 @@
 -- The numbers of a row whose distance from a beacon lies between two radii: two arms, one on each side. Assumes nothing.
-use mathlib.Core.Path.{_≡_, sym, subst}
+use mathlib.Core.Path.{_≡_, ap, subst, _∙_}
 use mathlib.Core.Bool.{Bool, true, false}
 use mathlib.Core.Logic.{_⊎_, inl, inr, ⊎-elim}
 use native.Mathlib.Omega.{arith}
@@ -114,6 +114,12 @@ module _ (inner outer b near far : ℤ) (n : Nearest inner near) (f : Farthest o
   ring-arms r o =
       let a = n .above in
       two-arms (in-ring inner outer b) (b -ℤ far) (b -ℤ near) (b +ℤ near) (b +ℤ far) (omega (arith, ints)) in-arm left right r o
+
+pub same-joined : (a b c d : Option Row) → a ≡ c → b ≡ d → joined a b ≡ joined c d
+same-joined a b c d p q = ap (λ o. joined o b) p ∙ ap (joined c) q
+
+pub same-ring : (r : Row) (i o b i′ o′ b′ : ℤ) → i ≡ i′ → o ≡ o′ → b ≡ b′ → ring i o b r ≡ ring i′ o′ b′ r
+same-ring r i o b i′ o′ b′ p q s = ap (λ z. ring z o b r) p ∙ ap (λ z. ring i′ z b r) q ∙ ap (λ z. ring i′ o′ z r) s
 
 -- no number is at a distance whose square is negative
 pub no-ring : (inner outer b : ℤ) (r : Row) → r .low ≤ℤ r .high → outer <ℤ pos 0 → ring inner outer b r ≡ None

@@ -14,17 +14,16 @@ use Rattle.std.proofs.shelf.Tests.{and-parts, and-from}
 use Rattle.std.proofs.shelf.Ways.{tells}
 use Rattle.tube.specs.Tubes.{Trajectory, is-tube, In, Lies, single, cell, value-at}
 use Rattle.tube.specs.declared.row.Row.{Row}
-use Rattle.tube.proofs.Ends.{spanned}
 use Rattle.tube.proofs.Narrower.{narrower-same, narrower-set}
 use Rattle.tube.proofs.Orders.{leZ-true, leZ-from}
-use Rattle.tube.proofs.Tables.{tube, interval-at}
+use Rattle.tube.proofs.Tables.{ordered-at}
 use Rattle.tube.proofs.Trajectories.{lies-at, lies-set}
 use Rattle.contractor.specs.Contractors.{Fair, Keeps}
 use Rattle.constraint.specs.Makings.{last-cell, are-step-cells}
 use Rattle.constraint.specs.Constraints.{Sum, settled, empty, equal, step-cause, summed, stepped, step}
 use Rattle.constraint.proofs.Fairs.{fair-empty, fair-settled, simple-keeps}
 use Rattle.constraint.proofs.Singles.{only-at}
-use Rattle.constraint.proofs.Sums.{Ordered, Summed, SumOf, summed-is}
+use Rattle.constraint.proofs.Sums.{Summed, SumOf, summed-is}
 
 module _ (number from by to : ℕ) where
   abbrev adds : Trajectory → Bool
@@ -93,11 +92,8 @@ module _ (number from by to : ℕ) where
         (holds s k)
         (obeys s k)
 
-    ordered : (c : ℕ) → c < length t → Ordered (cell t c)
-    ordered c l = spanned (cell t c .low) (cell t c .high) (interval-at t c l (tube t h .each)) .ordered
-
     pub step-fair : Fair (step number from by to) t (stepped number from by to t)
-    step-fair = by-sum (summed (cell t from) (cell t by) (cell t to)) (summed-is (cell t from) (cell t by) (cell t to) (ordered from from-in) (ordered by by-in))
+    step-fair = by-sum (summed (cell t from) (cell t by) (cell t to)) (summed-is (cell t from) (cell t by) (cell t to) (ordered-at t from h from-in) (ordered-at t by h by-in))
 
   pub step-keeps : are-step-cells from by to ≡ true → Keeps (step number from by to)
   step-keeps placed =

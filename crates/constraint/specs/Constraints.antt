@@ -80,17 +80,17 @@ module _ (number from by to : ℕ) where
   abbrev pub step : Value
   step = simple (λ p. equal (value-at p to) (value-at p from +ℤ value-at p by)) (max to (max from by)) stepped
 
+-- one axis of a range is narrowed by what the other can add to the square of the distance
+unfoldable pub axis-row : (nearest farthest : ℤ) (own other : Row) (own-beacon other-beacon : ℤ) → Option Row
+axis-row nearest farthest own other own-beacon other-beacon = ring (square nearest -ℤ greatest-square other other-beacon) (square farthest -ℤ least-square other other-beacon) own-beacon own
+
 -- the distance of the point (x, y) from a beacon lies between two numbers
 module _ (number x y : ℕ) (beacon-x beacon-y nearest farthest : ℤ) where
-  -- one axis is narrowed by what the other can add to the square of the distance
-  abbrev pub axis-row : (own other : Row) (own-beacon other-beacon : ℤ) → Option Row
-  axis-row own other own-beacon other-beacon = ring (square nearest -ℤ greatest-square other other-beacon) (square farthest -ℤ least-square other other-beacon) own-beacon own
-
   abbrev pub x-row : List Row → Option Row
-  x-row t = axis-row (cell t x) (cell t y) beacon-x beacon-y
+  x-row t = axis-row nearest farthest (cell t x) (cell t y) beacon-x beacon-y
 
   abbrev pub y-row : List Row → Option Row
-  y-row t = axis-row (cell t y) (cell t x) beacon-y beacon-x
+  y-row t = axis-row nearest farthest (cell t y) (cell t x) beacon-y beacon-x
 
   abbrev pub ranged : List Row → Narrowed
   ranged t =

@@ -1,4 +1,5 @@
 -- Hulls of whole numbers, and squares of distances. Assumes nothing.
+use mathlib.Core.Path.{_≡_}
 use mathlib.Core.Bool.{Bool, cond, _&&_}
 use Prim.Native.Nat.{ℕ, zero, suc, _+_, _*_, _≤_, _<_}
 use lib.IntN.{ℤ, pos, natAbs, _+ℤ_, _-ℤ_, _*ℤ_}
@@ -8,7 +9,7 @@ use Rattle.std.specs.Orderings.{Decides}
 use Rattle.std.specs.declared.option.Option.{Option}
 use Rattle.std.specs.declared.option.Option.the-variants.{Some, None}
 use Rattle.tube.specs.Spans.{reach}
-use Rattle.tube.specs.Tubes.{row, hull}
+use Rattle.tube.specs.Tubes.{row, contains, hull}
 use Rattle.tube.specs.declared.row.Row.{Row}
 
 -- the first of n numbers of a sequence, from number k on, that passes the test
@@ -42,11 +43,11 @@ abbrev pub square : ℤ → ℤ
 square z = z *ℤ z
 
 -- the greatest and the least square of a distance from b, over the numbers of a row
-abbrev pub greatest-square : Row → ℤ → ℤ
+unfoldable pub greatest-square : Row → ℤ → ℤ
 greatest-square r b = maxZ (square (r .low -ℤ b)) (square (r .high -ℤ b))
 
-abbrev pub least-square : Row → ℤ → ℤ
-least-square r b = cond (leZ (r .low) b && leZ b (r .high)) (pos 0) (minZ (square (r .low -ℤ b)) (square (r .high -ℤ b)))
+unfoldable pub least-square : Row → ℤ → ℤ
+least-square r b = cond (contains r b) (pos 0) (minZ (square (r .low -ℤ b)) (square (r .high -ℤ b)))
 
 -- a distance from b whose square lies between two numbers
 abbrev pub in-ring : (inner outer b : ℤ) → ℤ → Bool
@@ -83,3 +84,9 @@ joined (Some r) (Some s) = Some (hull r s)
 -- the greatest square of a difference of two coordinates, and of a distance
 abbrev pub greatest : ℕ
 greatest = 1152921504606846976
+
+-- such a square, and what it is
+pub record Squared (is-what r : ℤ) : Type 0 where
+  pub is : r ≡ is-what
+  pub above : pos 0 ≤ℤ r
+  pub below : r ≤ℤ pos greatest

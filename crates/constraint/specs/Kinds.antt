@@ -8,10 +8,11 @@ use Rattle.std.specs.declared.result.Result.{Result}
 use Rattle.std.specs.declared.result.Result.the-variants.{Ok, Err}
 use Rattle.tube.specs.declared.fault.MakingFault.{MakingFault}
 use Rattle.contractor.specs.Contractors.{Value}
-use Rattle.constraint.specs.Makings.{bound-fault, step-fault}
-use Rattle.constraint.specs.Constraints.{bound, step}
+use Rattle.constraint.specs.Makings.{bound-fault, step-fault, range-fault}
+use Rattle.constraint.specs.Constraints.{bound, step, range}
 use Rattle.constraint.specs.declared.bound.Bound.{Bound}
 use Rattle.constraint.specs.declared.step.Step.{Step}
+use Rattle.constraint.specs.declared.range.Range.{Range}
 
 abbrev pub bound-value : Bound → Value
 bound-value k = bound (k .number) (k .cell) (k .span .low) (k .span .high)
@@ -39,3 +40,19 @@ pub record IsStep (k : Step) (number from by to : ℕ) : Type 0 where
 abbrev pub MadeStep : (number from by to : ℕ) → Result Step MakingFault → Type 0
 MadeStep number from by to (Ok k) = (step-fault from by to ≡ None) × IsStep k number from by to
 MadeStep number from by to (Err e) = step-fault from by to ≡ Some e
+
+abbrev pub range-value : Range → Value
+range-value k = range (k .number) (k .x) (k .y) (k .beacon .x) (k .beacon .y) (k .nearest) (k .farthest)
+
+pub record IsRange (k : Range) (number x y : ℕ) (beacon-x beacon-y nearest farthest : ℤ) : Type 0 where
+  pub same-number : k .number ≡ number
+  pub same-x : k .x ≡ x
+  pub same-y : k .y ≡ y
+  pub same-beacon-x : k .beacon .x ≡ beacon-x
+  pub same-beacon-y : k .beacon .y ≡ beacon-y
+  pub same-nearest : k .nearest ≡ nearest
+  pub same-farthest : k .farthest ≡ farthest
+
+abbrev pub MadeRange : (number x y : ℕ) (beacon-x beacon-y nearest farthest : ℤ) → Result Range MakingFault → Type 0
+MadeRange number x y beacon-x beacon-y nearest farthest (Ok k) = (range-fault x y beacon-x beacon-y nearest farthest ≡ None) × IsRange k number x y beacon-x beacon-y nearest farthest
+MadeRange number x y beacon-x beacon-y nearest farthest (Err e) = range-fault x y beacon-x beacon-y nearest farthest ≡ Some e

@@ -1,8 +1,8 @@
 -- When a constraint can be made, and why not. Assumes nothing.
-use mathlib.Core.Bool.{Bool, cond, not, _&&_, _||_}
+use mathlib.Core.Bool.{Bool, cond, not, _&&_}
 use Prim.Native.Nat.{ℕ, _*_}
 use lib.Dec.{leb, eqb}
-use lib.IntN.{ℤ, pos}
+use lib.IntN.{ℤ, pos, negℤ}
 use lib.Signed.{leZ}
 use Rattle.std.specs.declared.option.Option.{Option}
 use Rattle.std.specs.declared.option.Option.the-variants.{Some, None}
@@ -34,14 +34,20 @@ step-fault from by to = cond (not (are-cells from by to)) (Some CellBeyondTube) 
 
 -- a coordinate of a beacon
 abbrev pub is-coordinate : ℤ → Bool
-is-coordinate b = spans b b
+is-coordinate b = leZ (negℤ (pos reach)) b && leZ b (pos reach)
 
 -- the ends of a measured distance: from 0 to twice the farthest coordinate, in order
 abbrev pub are-distances : ℤ → ℤ → Bool
-are-distances nearest farthest = leZ (pos 0) nearest && leZ nearest farthest && leZ farthest (pos (2 * reach))
+are-distances nearest farthest = leZ (pos 0) nearest && (leZ nearest farthest && leZ farthest (pos (2 * reach)))
+
+abbrev pub are-range-values : (beacon-x beacon-y nearest farthest : ℤ) → Bool
+are-range-values beacon-x beacon-y nearest farthest = is-coordinate beacon-x && (is-coordinate beacon-y && are-distances nearest farthest)
+
+abbrev pub is-range : (x y : ℕ) (beacon-x beacon-y nearest farthest : ℤ) → Bool
+is-range x y beacon-x beacon-y nearest farthest = (is-cell x && is-cell y) && (not (eqb x y) && are-range-values beacon-x beacon-y nearest farthest)
 
 abbrev pub range-fault : (x y : ℕ) (beacon-x beacon-y nearest farthest : ℤ) → Option MakingFault
 range-fault x y beacon-x beacon-y nearest farthest =
     cond (not (is-cell x && is-cell y)) (Some CellBeyondTube)
     (cond (eqb x y) (Some EqualCells)
-    (cond (not (is-coordinate beacon-x && is-coordinate beacon-y && are-distances nearest farthest)) (Some BadValue) None))
+    (cond (not (are-range-values beacon-x beacon-y nearest farthest)) (Some BadValue) None))

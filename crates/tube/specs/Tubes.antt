@@ -41,6 +41,10 @@ pub record In (r : Row) (v : ℤ) : Type 0 where
   pub above : r .low ≤ℤ v
   pub below : v ≤ℤ r .high
 
+-- the same as a test
+abbrev pub contains : Row → ℤ → Bool
+contains r v = leZ (r .low) v && leZ v (r .high)
+
 -- a trajectory lies in a tube: as many numbers as cells, each in its cell
 abbrev pub Lies : List Row → Trajectory → Type 0
 Lies [] [] = Unit {0}

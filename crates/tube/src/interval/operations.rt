@@ -1,7 +1,7 @@
 // Making an interval, reading its ends, and cutting it.
 ghost use mathlib.Core.Path.{_≡_};
 ghost use Rattle.tube.specs.Intervals.{row-of, row-if-any, row-if-made, made};
-ghost use Rattle.tube.specs.Tubes.{cut, hull};
+ghost use Rattle.tube.specs.Tubes.{contains, cut, hull};
 use super::Interval;
 use crate::fault::MakingFault;
 use crate::row::Row;
@@ -45,6 +45,12 @@ impl Interval {
             low: self.low,
             high: self.high,
         }
+    }
+
+    pub fn contains(self, v: i32) -> bool
+        ensures { λ r. ⌜ r ≡ contains (row-of self) v ⌝ }
+    {
+        self.low <= v && v <= self.high
     }
 
     // What the interval shares with the numbers from low to high, where it shares any.
