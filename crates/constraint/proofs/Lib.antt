@@ -1,6 +1,7 @@
 pub mod Bounds
 pub mod Fairs
 pub mod Hulls
+pub mod Keeping
 pub mod Machine
 pub mod Places
 pub mod Ranges

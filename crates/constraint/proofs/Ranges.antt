@@ -48,9 +48,9 @@ least-is r b v i =
     cond-both (leZ (r .low) b && leZ b (r .high)) (pos 0) (minZ (square (r .low -ℤ b)) (square (r .high -ℤ b))) (λ z. z ≤ℤ square (v -ℤ b))
     (λ e. square-above (v -ℤ b))
     (λ e. ⊎-elim
-        (λ over. let far = leZ-false (r .low) b over in let s = square-up (r .low -ℤ b) (v -ℤ b) (omega (arith, ints, far)) (omega (arith, ints)) in omega (arith, ints, clamps))
-        (λ under. let far = leZ-false b (r .high) under in let s = square-down (r .high -ℤ b) (v -ℤ b) (omega (arith, ints, far)) (omega (arith, ints)) in omega (arith, ints, clamps))
-        (and-cases (leZ (r .low) b) (leZ b (r .high)) e))
+    (λ over. let far = leZ-false (r .low) b over in let s = square-up (r .low -ℤ b) (v -ℤ b) (omega (arith, ints, far)) (omega (arith, ints)) in omega (arith, ints, clamps))
+    (λ under. let far = leZ-false b (r .high) under in let s = square-down (r .high -ℤ b) (v -ℤ b) (omega (arith, ints, far)) (omega (arith, ints)) in omega (arith, ints, clamps))
+    (and-cases (leZ (r .low) b) (leZ b (r .high)) e))
 
 module _ (r : Row) (b v : ℤ) (o : Only r v) where
   is-row : r ≡ row v v

@@ -30,21 +30,23 @@ sign-cases (negsuc n) = inr refl
 pub outer-decides : (u s : ℕ) → s * s ≤ u → u < (s + 1) * (s + 1) → (d : ℤ) → Decides (leZ (square d) (pos u)) (natAbs d ≤ s)
 outer-decides u s low high d =
     let n = natAbs d in
-    let is = square-is d in
-    (λ e.
-        let le : n * n ≤ u = leb-true _ _ (subst (λ z. leZ z (pos u) ≡ true) is e) in
-        ⊎-elim (λ far. let m = mul-le (s + 1) (s + 1) n n (omega arith) (omega arith) in absurd (omega arith)) (λ near. near) (cases-lt s n),
-    λ near. let m = mul-le n n s s near near in subst (λ z. leZ z (pos u) ≡ true) (sym is) (le-leb _ _ (omega arith)))
+    let is = square-is d in (
+      λ e.
+          let le : n * n ≤ u = leb-true _ _ (subst (λ z. leZ z (pos u) ≡ true) is e) in
+          ⊎-elim (λ far. let m = mul-le (s + 1) (s + 1) n n (omega arith) (omega arith) in absurd (omega arith)) (λ near. near) (cases-lt s n),
+      λ near. let m = mul-le n n s s near near in subst (λ z. leZ z (pos u) ≡ true) (sym is) (le-leb _ _ (omega arith)),
+    )
 
 -- the least distance whose square is at least a number that is above 0
 pub inner-decides : (l s : ℕ) → s * s < l → l ≤ (s + 1) * (s + 1) → (d : ℤ) → Decides (leZ (pos l) (square d)) (s + 1 ≤ natAbs d)
 inner-decides l s low high d =
     let n = natAbs d in
-    let is = square-is d in
-    (λ e.
-        let le : l ≤ n * n = leb-true _ _ (subst (λ z. leZ (pos l) z ≡ true) is e) in
-        ⊎-elim (λ near. let m = mul-le n n s s (omega arith) (omega arith) in absurd (omega arith)) (λ far. far) (cases-lt n (s + 1)),
-    λ far. let m = mul-le (s + 1) (s + 1) n n far far in subst (λ z. leZ (pos l) z ≡ true) (sym is) (le-leb _ _ (omega arith)))
+    let is = square-is d in (
+      λ e.
+          let le : l ≤ n * n = leb-true _ _ (subst (λ z. leZ (pos l) z ≡ true) is e) in
+          ⊎-elim (λ near. let m = mul-le n n s s (omega arith) (omega arith) in absurd (omega arith)) (λ far. far) (cases-lt n (s + 1)),
+      λ far. let m = mul-le (s + 1) (s + 1) n n far far in subst (λ z. leZ (pos l) z ≡ true) (sym is) (le-leb _ _ (omega arith)),
+    )
 
 -- every distance has a square that is at least a number that is not above 0
 pub no-inner : (l d : ℤ) → l ≤ℤ pos 0 → Decides (leZ l (square d)) (0 ≤ natAbs d)

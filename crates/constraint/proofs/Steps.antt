@@ -78,12 +78,12 @@ module _ (number from by to : ℕ) where
     by-sum : (o : Option Sum) → SumOf (cell t from) (cell t by) (cell t to) o → Fair (step number from by to) t (elim o [ None ↦ empty step-cause number to t | Some s ↦ settled (set (set (set t to (s .to)) from (s .from)) by (s .by)) ])
     by-sum None none =
         fair-empty adds (max to (max from by)) (stepped number from by to) t step-cause number to h to-in (λ p l e.
-            let q = obeying p l e in
-            let a = q .start in
-            let d = q .added in
-            let f = q .above in
-            let g = q .below in
-            none (value-at p to) (q .total) (omega (arith, ints)) (omega (arith, ints)))
+        let q = obeying p l e in
+        let a = q .start in
+        let d = q .added in
+        let f = q .above in
+        let g = q .below in
+        none (value-at p to) (q .total) (omega (arith, ints)) (omega (arith, ints)))
     by-sum (Some s) k =
         fair-settled adds (max to (max from by)) (stepped number from by to) t (set (set (set t to (s .to)) from (s .from)) by (s .by))
         (narrower-set t h (set (set t to (s .to)) from (s .from)) by (s .by) by-in

@@ -64,8 +64,8 @@ cut-difference own a b = cut own (a .low -ℤ b .high) (a .high -ℤ b .low)
 abbrev pub summed : (from by to : Row) → Option Sum
 summed from by to =
     elim (cut-sum to from by) [
-      None ↦ None
-    | Some left ↦ Some (record { from = valueOr (cut-difference from to by) from; by = valueOr (cut-difference by to from) by; to = left })
+      | None ↦ None
+      | Some left ↦ Some (record { from = valueOr (cut-difference from to by) from; by = valueOr (cut-difference by to from) by; to = left })
     ]
 
 -- cell `to` is cell `from` plus cell `by`
@@ -73,8 +73,8 @@ module _ (number from by to : ℕ) where
   abbrev pub stepped : List Row → Narrowed
   stepped t =
       elim (summed (cell t from) (cell t by) (cell t to)) [
-        None ↦ empty step-cause number to t
-      | Some left ↦ settled (set (set (set t to (left .to)) from (left .from)) by (left .by))
+        | None ↦ empty step-cause number to t
+        | Some left ↦ settled (set (set (set t to (left .to)) from (left .from)) by (left .by))
       ]
 
   abbrev pub step : Value
@@ -95,10 +95,10 @@ module _ (number x y : ℕ) (beacon-x beacon-y nearest farthest : ℤ) where
   abbrev pub ranged : List Row → Narrowed
   ranged t =
       elim (x-row t) [
-        None ↦ empty range-cause number x t
-      | Some v ↦ elim (y-row t) [
-          None ↦ empty range-cause number y t
-        | Some w ↦ settled (set (set t x v) y w)
+        | None ↦ empty range-cause number x t
+        | Some v ↦ elim (y-row t) [
+          | None ↦ empty range-cause number y t
+          | Some w ↦ settled (set (set t x v) y w)
         ]
       ]
 

@@ -13,6 +13,8 @@ use Rattle.constraint.specs.Constraints.{bound, step, range}
 use Rattle.constraint.specs.declared.bound.Bound.{Bound}
 use Rattle.constraint.specs.declared.step.Step.{Step}
 use Rattle.constraint.specs.declared.range.Range.{Range}
+use Rattle.constraint.specs.declared.constraint.Constraint.{Constraint}
+use Rattle.constraint.specs.declared.constraint.Constraint.the-variants.{Bound as of-bound, Step as of-step, Range as of-range}
 
 abbrev pub bound-value : Bound → Value
 bound-value k = bound (k .number) (k .cell) (k .span .low) (k .span .high)
@@ -56,3 +58,10 @@ pub record IsRange (k : Range) (number x y : ℕ) (beacon-x beacon-y nearest far
 abbrev pub MadeRange : (number x y : ℕ) (beacon-x beacon-y nearest farthest : ℤ) → Result Range MakingFault → Type 0
 MadeRange number x y beacon-x beacon-y nearest farthest (Ok k) = (range-fault x y beacon-x beacon-y nearest farthest ≡ None) × IsRange k number x y beacon-x beacon-y nearest farthest
 MadeRange number x y beacon-x beacon-y nearest farthest (Err e) = range-fault x y beacon-x beacon-y nearest farthest ≡ Some e
+
+-- ---- a constraint of any kind
+
+abbrev pub constraint-value : Constraint → Value
+constraint-value (of-bound k) = bound-value k
+constraint-value (of-step k) = step-value k
+constraint-value (of-range k) = range-value k

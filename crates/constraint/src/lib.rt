@@ -2,6 +2,7 @@
 mod answers;
 mod bound;
 mod cells;
+mod constraint;
 mod range;
 mod ring;
 mod root;
@@ -12,6 +13,10 @@ pub use bound::Bound;
 pub use bound::BoundContractor;
 pub use bound::BoundDebug;
 pub use bound::BoundPartialEq;
+pub use constraint::Constraint;
+pub use constraint::ConstraintContractor;
+pub use constraint::ConstraintDebug;
+pub use constraint::ConstraintPartialEq;
 pub use range::Beacon;
 pub use range::BeaconDebug;
 pub use range::BeaconPartialEq;

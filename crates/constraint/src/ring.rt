@@ -96,11 +96,21 @@ fn within_ring(cell: Interval, beacon: i32, inner: i64, outer: i64) -> Option<In
     }
     let near = inner_radius(inner);
     let far = outer_radius(outer);
-    either_side(cell.cut(beacon - far, beacon - near), cell.cut(beacon + near, beacon + far))
+    either_side(
+        cell.cut(beacon - far, beacon - near),
+        cell.cut(beacon + near, beacon + far),
+    )
 }
 
 // What is left of a point's interval on one axis, after what the other axis can add to the square of its distance from a beacon.
-pub(crate) fn axis(nearest: i32, farthest: i32, own: Interval, other: Interval, own_beacon: i32, other_beacon: i32) -> Option<Interval>
+pub(crate) fn axis(
+    nearest: i32,
+    farthest: i32,
+    own: Interval,
+    other: Interval,
+    own_beacon: i32,
+    other_beacon: i32,
+) -> Option<Interval>
     requires distances { ⌜ are-distances nearest farthest ≡ true ⌝ }
     requires own { ⌜ is-coordinate «own_beacon» ≡ true ⌝ }
     requires other { ⌜ is-coordinate «other_beacon» ≡ true ⌝ }

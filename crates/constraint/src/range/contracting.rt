@@ -25,7 +25,14 @@ impl Range {
     // The cause by which its faults tell that it is a range.
     pub const CAUSE: u8 = 3;
 
-    pub fn new(number: u16, x: usize, y: usize, beacon: Beacon, nearest: i32, farthest: i32) -> Result<Self, MakingFault>
+    pub fn new(
+        number: u16,
+        x: usize,
+        y: usize,
+        beacon: Beacon,
+        nearest: i32,
+        farthest: i32,
+    ) -> Result<Self, MakingFault>
         ensures { λ r. ⌜ MadeRange number x y (beacon .x) (beacon .y) nearest farthest r ⌝ }
     {
         if x > LAST_CELL || y > LAST_CELL {
@@ -51,13 +58,27 @@ impl Range {
     fn x_left(self, x: Interval, y: Interval) -> Option<Interval>
         ensures { λ r. ⌜ row-if-any r ≡ axis-row (self .nearest) (self .farthest) (row-of x) (row-of y) (self .beacon .x) (self .beacon .y) ⌝ }
     {
-        axis(self.nearest, self.farthest, x, y, self.beacon.x, self.beacon.y)
+        axis(
+            self.nearest,
+            self.farthest,
+            x,
+            y,
+            self.beacon.x,
+            self.beacon.y,
+        )
     }
 
     fn y_left(self, x: Interval, y: Interval) -> Option<Interval>
         ensures { λ r. ⌜ row-if-any r ≡ axis-row (self .nearest) (self .farthest) (row-of y) (row-of x) (self .beacon .y) (self .beacon .x) ⌝ }
     {
-        axis(self.nearest, self.farthest, y, x, self.beacon.y, self.beacon.x)
+        axis(
+            self.nearest,
+            self.farthest,
+            y,
+            x,
+            self.beacon.y,
+            self.beacon.x,
+        )
     }
 }
 
