@@ -1,4 +1,5 @@
 pub mod Constraints
+pub mod Examples
 pub mod Hulls
 pub mod Kinds
 pub mod Makings
