@@ -1,6 +1,9 @@
 // Why an interval or a constraint could not be made.
 ghost use mathlib.Core.Path.{_≡_};
-ghost use Rattle.tube.specs.Faults.{number-of};
+ghost use Rattle.std.specs.declared.option.Option.the-variants.{Some};
+ghost use Rattle.tube.specs.Faults.{number-of, words};
+use std::error::Error;
+use std::fmt;
 
 #[derive(Clone, Copy, Debug, PartialEq)]
 pub enum MakingFault {
@@ -23,4 +26,25 @@ impl MakingFault {
             MakingFault::BadValue => 3,
         }
     }
+
+    // The fault in words.
+    pub fn words(self) -> &'static str
+        ensures { λ r. ⌜ now r ≡ words self ⌝ }
+    {
+        match self {
+            MakingFault::CellBeyondTube => "a cell above 511",
+            MakingFault::EqualCells => "two equal cells",
+            MakingFault::BadValue => "a value beyond its limits, or ends out of order",
+        }
+    }
 }
+
+pub impl fmt::Display for MakingFault as MakingFaultDisplay {
+    ghost shown = { λ e. Some (words e) };
+
+    fn fmt<W: fmt::Write>(&self, f: &mut fmt::Formatter<W>) -> fmt::Result {
+        f.write_str(self.words())
+    }
+}
+
+pub impl Error for MakingFault as MakingFaultError {}

@@ -6,6 +6,8 @@ mod table;
 
 pub use fault::MakingFault;
 pub use fault::MakingFaultDebug;
+pub use fault::MakingFaultDisplay;
+pub use fault::MakingFaultError;
 pub use fault::MakingFaultPartialEq;
 pub use interval::Interval;
 pub use interval::IntervalDebug;
