@@ -1,0 +1,4 @@
+pub mod Histories
+pub mod Limits
+pub mod Refusals
+pub mod Standings
