@@ -1,0 +1,4 @@
+pub mod Accepting
+pub mod Layering
+pub mod Singles
+pub mod Composing

@@ -1,0 +1,50 @@
+-- The repetition of a contractor: it is used in rounds until a round changes no cell, empties, or was the last. Assumes nothing.
+use mathlib.Core.Bool.{Bool, true, false, cond, _&&_}
+use mathlib.Core.List.{List, [], _∷_}
+use Prim.Native.Nat.{ℕ, zero, suc, _+_, _*_}
+use lib.IntN.{ℤ}
+use lib.Signed.{leZ}
+use Rattle.tube.specs.declared.row.Row.{Row}
+use Rattle.contractor.specs.Answers.{kept, emptied}
+use Rattle.contractor.specs.Contractors.{Value, Narrowed}
+use Rattle.contractor.specs.Layers.{above, capped, passed-up, leaving}
+use Rattle.contractor.specs.declared.answer.Mark.the-variants.{Stopped}
+use Rattle.contractor.specs.declared.answer.Verdict.{Verdict}
+use Rattle.contractor.specs.declared.answer.Verdict.the-variants.{Kept, Empty}
+
+abbrev pub repeat-digit : ℕ
+repeat-digit = 4
+
+abbrev pub equal : ℤ → ℤ → Bool
+equal a b = leZ a b && leZ b a
+
+abbrev pub same-row : Row → Row → Bool
+same-row r s = equal (r .low) (s .low) && equal (r .high) (s .high)
+
+abbrev pub same-rows : List Row → List Row → Bool
+same-rows [] [] = true
+same-rows [] (s ∷ ss) = false
+same-rows (r ∷ rs) [] = false
+same-rows (r ∷ rs) (s ∷ ss) = same-row r s && same-rows rs ss
+
+-- what comes of a round's verdict after the calls so far, from the tubes before and after it: the end, or what the rounds left over make of it
+abbrev pub round-end : Verdict → ℕ → (before after : List Row) → (rest : Narrowed) → Narrowed
+round-end (Kept mark) calls before after rest = cond (same-rows before after) (leaving (kept mark calls) after) rest
+round-end (Empty fault) calls before after rest = leaving (emptied (passed-up repeat-digit fault) calls) after
+
+-- At most so many rounds, after the calls so far. None is left over only where the last of them changed a cell.
+abbrev pub rounds : Value → (left : ℕ) → ℕ → List Row → Narrowed
+rounds v zero calls t = leaving (kept Stopped calls) t
+rounds v (suc left) calls t =
+    let u : Narrowed = v .narrowed t in
+    let spent : ℕ = calls + u .answer .calls in
+    round-end (u .answer .verdict) spent t (u .tube) (rounds v left spent (u .tube))
+
+abbrev pub repeat : ℕ → Value → Value
+repeat r v = record {
+  relation = v .relation;
+  need = v .need;
+  height = above (v .height);
+  ceiling = capped (r * v .ceiling);
+  narrowed = λ t. rounds v r 0 t;
+}
