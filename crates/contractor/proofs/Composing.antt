@@ -9,7 +9,6 @@ use lib.ListN.{length}
 use Rattle.std.proofs.shelf.Tests.{and-parts, and-cases, cases-bool}
 use Rattle.tube.specs.Tubes.{Trajectory, Lies, Inside, single}
 use Rattle.tube.specs.declared.row.Row.{Row}
-use Rattle.tube.proofs.Insides.{inside-trans, inside-length}
 use Rattle.tube.proofs.Trajectories.{in-single}
 use Rattle.contractor.specs.Answers.{IsKept, IsEmpty, Placed, kept, emptied}
 use Rattle.contractor.specs.Contractors.{Value, Narrowed, Accepted, Fair, Keeps}
@@ -21,6 +20,7 @@ use Rattle.contractor.specs.declared.answer.Verdict.{Verdict}
 use Rattle.contractor.specs.declared.answer.Verdict.the-variants.{Kept, Empty}
 use Rattle.contractor.proofs.Accepting.{accepted-inside}
 use Rattle.contractor.proofs.Layering.{passed-placed, Pair, over-two-keeps}
+use Rattle.contractor.proofs.Sequences.{sound-after, fair-from}
 use Rattle.contractor.proofs.Singles.{single-left}
 
 -- a kept verdict of a part on the tube of one trajectory: the trajectory is in its relation, and all is left as it was
@@ -40,9 +40,9 @@ module _ (v w : Value) (t : List Row) (parts : Pair v w (both v w) t) where
       placed = passed-placed first-digit _ _ (length t) fault (omega arith) (parts .first-lower) (f .placed);
     }
 
-  second-placed : (mark : Mark) (x : Verdict) (calls : ℕ) → Placed (w .height) (length t) x → Placed (both v w .height) (length t) (second-answer mark x calls .verdict)
-  second-placed mark (Kept other) calls h = tt
-  second-placed mark (Empty fault) calls h = passed-placed second-digit _ _ (length t) fault (omega arith) (parts .second-lower) h
+  second-placed : (mark : Mark) (x : Verdict) (calls n : ℕ) → Placed (w .height) n x → Placed (both v w .height) n (second-answer mark x calls .verdict)
+  second-placed mark (Kept other) calls n h = tt
+  second-placed mark (Empty fault) calls n h = passed-placed second-digit _ _ n fault (omega arith) (parts .second-lower) h
 
   second-kept : (mark : Mark) (x : Verdict) (calls : ℕ) → IsKept x → IsKept (second-answer mark x calls .verdict)
   second-kept mark (Kept other) calls h = tt
@@ -57,18 +57,19 @@ module _ (v w : Value) (t : List Row) (parts : Pair v w (both v w) t) where
   second-calls mark (Empty fault) calls = refl
 
   after-kept : (mark : Mark) (calls : ℕ) (u : List Row) → Fair v t (leaving (kept mark calls) u) → Fair w u (w .narrowed u) → Fair (both v w) t (after-first w (Kept mark) calls u)
-  after-kept mark calls u f g = record {
-      tube = g .tube;
-      inside = inside-trans (w .narrowed u .tube) u t (g .inside) (f .inside);
-      loses-none = λ p l r.
-          let b = g .loses-none p (f .loses-none p l (and-parts _ _ r .0) .0) (and-parts (v .relation p) _ r .1) in
-          (b .0, second-kept mark (w .narrowed u .answer .verdict) _ (b .1));
-      decides = λ p one r.
-          let o = obeyed v t p mark calls u one f in
-          second-empty mark (w .narrowed u .answer .verdict) _ (g .decides p (o .1) (grind (arith, o .0, r)));
-      calls = omega (arith, f .calls, g .calls, parts .calls, second-calls mark (w .narrowed u .answer .verdict) (calls + w .narrowed u .answer .calls));
-      placed = second-placed mark (w .narrowed u .answer .verdict) _ (subst (λ n. Placed (w .height) n (w .narrowed u .answer .verdict)) (inside-length u t (f .inside)) (g .placed));
-    }
+  after-kept mark calls u f g =
+      let x : Verdict = w .narrowed u .answer .verdict in
+      let sum : ℕ = calls + w .narrowed u .answer .calls in
+      let holds : (p : Trajectory) → Lies t p → both v w .relation p ≡ true → Lies u p = λ p l r. f .loses-none p l (and-parts _ _ r .0) .0 in
+      fair-from (both v w) t (after-first w (Kept mark) calls u)
+          (sound-after (both v w .relation) (both v w .height) (both v w .ceiling) t u (after-first w (Kept mark) calls u) (f .inside) holds (record {
+            tube = g .tube;
+            inside = g .inside;
+            loses-none = λ p l r. let b = g .loses-none p l (and-parts (v .relation p) _ r .1) in (b .0, second-kept mark x sum (b .1));
+            calls = omega (arith, f .calls, g .calls, parts .calls, second-calls mark x sum);
+            placed = second-placed mark x sum (length u) (g .placed);
+          }))
+          (λ p one r. let o = obeyed v t p mark calls u one f in second-empty mark x sum (g .decides p (o .1) (grind (arith, o .0, r))))
 
   composed-fair : (x : Verdict) (calls : ℕ) (u : List Row) → Keeps w → Fair v t (leaving (record { verdict = x; calls = calls }) u) → Fair (both v w) t (after-first w x calls u)
   composed-fair (Empty fault) calls u l f = after-empty fault calls u f

@@ -11,15 +11,20 @@ use Rattle.tube.specs.Tubes.{Trajectory, Lies, Inside, single}
 use Rattle.tube.specs.declared.row.Row.{Row}
 use Rattle.tube.proofs.Insides.{inside-same, inside-length}
 use Rattle.tube.proofs.Trajectories.{lies-wider}
-use Rattle.contractor.specs.Answers.{kept, emptied}
+use Rattle.contractor.specs.Answers.{Placed, kept, emptied}
 use Rattle.contractor.specs.Contractors.{Value, Narrowed, Fair, Keeps}
-use Rattle.contractor.specs.Layers.{leaving}
+use Rattle.contractor.specs.Layers.{passed-up, leaving}
 use Rattle.contractor.specs.Unions.{either-digit, named-fault, hulls, united-by, either}
+use Rattle.contractor.specs.declared.answer.Fault.{Fault}
 use Rattle.contractor.specs.declared.answer.Verdict.{Verdict}
 use Rattle.contractor.specs.declared.answer.Verdict.the-variants.{Kept, Empty}
 use Rattle.contractor.proofs.Accepting.{accepted-facts}
 use Rattle.contractor.proofs.Hulls.{inside-hulls, first-inside, second-inside, hulls-tube}
 use Rattle.contractor.proofs.Layering.{passed-placed, Pair, over-two-keeps}
+
+-- whichever side's fault is passed up, what holds of both holds of it
+pub named-either : (P : Fault → Type 0) (first second : Fault) → P first → P second → P (named-fault first second)
+named-either P first second h k = h
 
 united-fair : (v w : Value) (t : List Row) → Pair v w (either v w) t → (x y : Verdict) (a b : ℕ) (first second : List Row) → Fair v t (leaving (record { verdict = x; calls = a }) first) → Fair w t (leaving (record { verdict = y; calls = b }) second) → Fair (either v w) t (united-by x y (a + b) t first second)
 united-fair v w t parts (Kept mark) (Kept other) a b first second f g =
@@ -54,7 +59,10 @@ united-fair v w t parts (Empty fault) (Empty other) a b first second f g = recor
     loses-none = λ p l r. absurd (⊎-elim (λ e. f .loses-none p l e .1) (λ e. g .loses-none p l e .1) (or-cases (v .relation p) (w .relation p) r));
     decides = λ p one r. tt;
     calls = omega (arith, f .calls, g .calls, parts .calls);
-    placed = passed-placed either-digit _ _ (length t) fault (omega arith) (parts .first-lower) (f .placed);
+    placed =
+        named-either (λ e. Placed (either v w .height) (length t) (Empty (passed-up either-digit e))) fault other
+            (passed-placed either-digit _ _ (length t) fault (omega arith) (parts .first-lower) (f .placed))
+            (passed-placed either-digit _ _ (length t) other (omega arith) (parts .second-lower) (g .placed));
   }
 
 pub either-keeps : (v w : Value) → Keeps v → Keeps w → Keeps (either v w)
