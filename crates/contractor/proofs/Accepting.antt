@@ -1,5 +1,5 @@
 -- When a use is not refused, taken apart and put together. Assumes nothing.
-use mathlib.Core.Path.{_≡_}
+use mathlib.Core.Path.{_≡_, sym, subst}
 use mathlib.Core.Bool.{true}
 use mathlib.Core.List.{List}
 use native.Mathlib.Omega.{arith}
@@ -9,7 +9,7 @@ use Rattle.std.proofs.shelf.Ways.{tells}
 use Rattle.tube.specs.Tubes.{is-tube, Inside}
 use Rattle.tube.specs.declared.row.Row.{Row}
 use Rattle.tube.proofs.Insides.{inside-length}
-use Rattle.contractor.specs.Contractors.{Value, Accepted, refusal}
+use Rattle.contractor.specs.Contractors.{Value, Narrowed, Accepted, Fair, Keeps, refusal}
 use Rattle.contractor.specs.Refusals.{most-layers, most-calls}
 
 -- what is known of a contractor and a tube that it is not refused on
@@ -31,3 +31,7 @@ accepted-inside v t u a good inside =
     let f = accepted-facts v t a in
     let l = inside-length u t inside in
     accepted-from v u (record { tube = good; need = omega arith; height = f .height; ceiling = f .ceiling })
+
+-- a use that answers as its contractor's value does is fair
+pub used-fair : (v : Value) (t : List Row) (u : Narrowed) → Keeps v → Accepted v t → u ≡ v .narrowed t → Fair v t u
+used-fair v t u k a told = subst (Fair v t) (sym told) (k .fair t a)

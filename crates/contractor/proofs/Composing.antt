@@ -4,7 +4,7 @@ use mathlib.Core.Bool.{Bool, true, false, _&&_}
 use mathlib.Core.Logic.{⊎-elim}
 use mathlib.Core.List.{List}
 use native.Mathlib.Omega.{arith}
-use Prim.Native.Nat.{ℕ, _+_, _≤_}
+use Prim.Native.Nat.{ℕ, _+_, _*_, _^_, _≤_, _<_}
 use lib.ListN.{length}
 use Rattle.std.proofs.shelf.Tests.{and-parts, and-cases, cases-bool}
 use Rattle.tube.specs.Tubes.{Trajectory, Lies, Inside, single}
@@ -14,12 +14,13 @@ use Rattle.contractor.specs.Answers.{IsKept, IsEmpty, Placed, kept, emptied}
 use Rattle.contractor.specs.Contractors.{Value, Narrowed, Accepted, Fair, Keeps}
 use Rattle.contractor.specs.Layers.{leaving}
 use Rattle.contractor.specs.Compositions.{first-digit, second-digit, second-answer, after-first, composed, both}
+use Rattle.contractor.specs.Refusals.{most-calls}
 use Rattle.contractor.specs.declared.answer.Fault.{Fault}
 use Rattle.contractor.specs.declared.answer.Mark.{Mark}
 use Rattle.contractor.specs.declared.answer.Verdict.{Verdict}
 use Rattle.contractor.specs.declared.answer.Verdict.the-variants.{Kept, Empty}
-use Rattle.contractor.proofs.Accepting.{accepted-inside}
-use Rattle.contractor.proofs.Layering.{passed-placed, Pair, over-two-keeps}
+use Rattle.contractor.proofs.Accepting.{accepted-facts, accepted-inside, used-fair}
+use Rattle.contractor.proofs.Layering.{passed-placed, passed-fits, Pair, pair, over-two-keeps}
 use Rattle.contractor.proofs.Sequences.{sound-after, fair-from}
 use Rattle.contractor.proofs.Singles.{single-left}
 
@@ -32,13 +33,13 @@ obeyed v t p mark calls u one f =
 module _ (v w : Value) (t : List Row) (parts : Pair v w (both v w) t) where
   after-empty : (fault : Fault) (calls : ℕ) (u : List Row) → Fair v t (leaving (emptied fault calls) u) → Fair (both v w) t (after-first w (Empty fault) calls u)
   after-empty fault calls u f = record {
-      tube = f .tube;
-      inside = f .inside;
-      loses-none = λ p l r. absurd (f .loses-none p l (and-parts _ _ r .0) .1);
-      decides = λ p one r. tt;
-      calls = omega (arith, f .calls, parts .calls);
-      placed = passed-placed first-digit _ _ (length t) fault (omega arith) (parts .first-lower) (f .placed);
-    }
+    tube = f .tube;
+    inside = f .inside;
+    loses-none = λ p l r. absurd (f .loses-none p l (and-parts _ _ r .0) .1);
+    decides = λ p one r. tt;
+    calls = omega (arith, f .calls, parts .calls);
+    placed = passed-placed first-digit _ _ (length t) fault (omega arith) (parts .first-lower) (f .placed);
+  }
 
   second-placed : (mark : Mark) (x : Verdict) (calls n : ℕ) → Placed (w .height) n x → Placed (both v w .height) n (second-answer mark x calls .verdict)
   second-placed mark (Kept other) calls n h = tt
@@ -62,14 +63,14 @@ module _ (v w : Value) (t : List Row) (parts : Pair v w (both v w) t) where
       let sum : ℕ = calls + w .narrowed u .answer .calls in
       let holds : (p : Trajectory) → Lies t p → both v w .relation p ≡ true → Lies u p = λ p l r. f .loses-none p l (and-parts _ _ r .0) .0 in
       fair-from (both v w) t (after-first w (Kept mark) calls u)
-          (sound-after (both v w .relation) (both v w .height) (both v w .ceiling) t u (after-first w (Kept mark) calls u) (f .inside) holds (record {
-            tube = g .tube;
-            inside = g .inside;
-            loses-none = λ p l r. let b = g .loses-none p l (and-parts (v .relation p) _ r .1) in (b .0, second-kept mark x sum (b .1));
-            calls = omega (arith, f .calls, g .calls, parts .calls, second-calls mark x sum);
-            placed = second-placed mark x sum (length u) (g .placed);
-          }))
-          (λ p one r. let o = obeyed v t p mark calls u one f in second-empty mark x sum (g .decides p (o .1) (grind (arith, o .0, r))))
+      (sound-after (both v w .relation) (both v w .height) (both v w .ceiling) t u (after-first w (Kept mark) calls u) (f .inside) holds (record {
+        tube = g .tube;
+        inside = g .inside;
+        loses-none = λ p l r. let b = g .loses-none p l (and-parts (v .relation p) _ r .1) in (b .0, second-kept mark x sum (b .1));
+        calls = omega (arith, f .calls, g .calls, parts .calls, second-calls mark x sum);
+        placed = second-placed mark x sum (length u) (g .placed);
+      }))
+      (λ p one r. let o = obeyed v t p mark calls u one f in second-empty mark x sum (g .decides p (o .1) (grind (arith, o .0, r))))
 
   composed-fair : (x : Verdict) (calls : ℕ) (u : List Row) → Keeps w → Fair v t (leaving (record { verdict = x; calls = calls }) u) → Fair (both v w) t (after-first w x calls u)
   composed-fair (Empty fault) calls u l f = after-empty fault calls u f
@@ -77,3 +78,23 @@ module _ (v w : Value) (t : List Row) (parts : Pair v w (both v w) t) where
 
 pub both-keeps : (v w : Value) → Keeps v → Keeps w → Keeps (both v w)
 both-keeps v w k l = over-two-keeps v w _ _ k l (λ t parts. composed-fair v w t parts (v .narrowed t .answer .verdict) (v .narrowed t .answer .calls) (v .narrowed t .tube) l (k .fair t (parts .first)))
+
+-- what the code of a use needs: the second part is not refused on what the first left, and its sums fit
+module _ (v w : Value) (k : Keeps v) (l : Keeps w) (t : List Row) (accepted : Accepted (both v w) t) (a : Narrowed) (told : a ≡ v .narrowed t) where
+  parts : Pair v w (both v w) t
+  parts = pair v w _ _ t accepted
+
+  first-fair : Fair v t a
+  first-fair = used-fair v t a k (parts .first) told
+
+  pub first-fits : (fault : Fault) → a .answer .verdict ≡ Empty fault → fault .path * 8 + first-digit < 2 ^ 64
+  first-fits fault is = passed-fits first-digit _ _ (length t) _ fault (omega arith) (parts .first-lower) (accepted-facts (both v w) t accepted .height) (first-fair .placed) is
+
+  pub second-accepted : Accepted w (a .tube)
+  second-accepted = accepted-inside w t (a .tube) (parts .second) (first-fair .tube) (first-fair .inside)
+
+  pub both-calls : (b : Narrowed) → b ≡ w .narrowed (a .tube) → a .answer .calls + b .answer .calls ≤ most-calls
+  both-calls b told-too = omega (arith, first-fair .calls, used-fair w (a .tube) b l second-accepted told-too .calls, parts .calls, accepted-facts (both v w) t accepted .ceiling)
+
+  pub second-fits : (b : Narrowed) → b ≡ w .narrowed (a .tube) → (fault : Fault) → b .answer .verdict ≡ Empty fault → fault .path * 8 + second-digit < 2 ^ 64
+  second-fits b told-too fault is = passed-fits second-digit _ _ (length (a .tube)) _ fault (omega arith) (parts .second-lower) (accepted-facts (both v w) t accepted .height) (used-fair w (a .tube) b l second-accepted told-too .placed) is

@@ -21,12 +21,12 @@ pub record Sound (relation : Trajectory → Bool) (height ceiling : ℕ) (t : Li
 -- what is sound on the tube that an earlier use left is sound on the tube that the earlier use was on
 pub sound-after : (relation : Trajectory → Bool) (height ceiling : ℕ) (t between : List Row) (u : Narrowed) → Inside between t → ((p : Trajectory) → Lies t p → relation p ≡ true → Lies between p) → Sound relation height ceiling between u → Sound relation height ceiling t u
 sound-after relation height ceiling t between u inside holds s = record {
-    tube = s .tube;
-    inside = inside-trans (u .tube) between t (s .inside) inside;
-    loses-none = λ p l r. s .loses-none p (holds p l r) r;
-    calls = s .calls;
-    placed = subst (λ n. Placed height n (u .answer .verdict)) (inside-length between t inside) (s .placed);
-  }
+  tube = s .tube;
+  inside = inside-trans (u .tube) between t (s .inside) inside;
+  loses-none = λ p l r. s .loses-none p (holds p l r) r;
+  calls = s .calls;
+  placed = subst (λ n. Placed height n (u .answer .verdict)) (inside-length between t inside) (s .placed);
+}
 
 pub fair-from : (v : Value) (t : List Row) (u : Narrowed) → Sound (v .relation) (v .height) (v .ceiling) t u → ((p : Trajectory) → t ≡ single p → v .relation p ≡ false → IsEmpty (u .answer .verdict)) → Fair v t u
 fair-from v t u s decides = record { tube = s .tube; inside = s .inside; loses-none = s .loses-none; decides = decides; calls = s .calls; placed = s .placed }

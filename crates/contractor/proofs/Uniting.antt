@@ -38,34 +38,34 @@ united-fair v w t parts (Kept mark) (Kept other) a b first second f g =
       placed = tt;
     }
 united-fair v w t parts (Kept mark) (Empty fault) a b first second f g = record {
-    tube = f .tube;
-    inside = f .inside;
-    loses-none = λ p l r. (⊎-elim (λ e. f .loses-none p l e .0) (λ e. absurd (g .loses-none p l e .1)) (or-cases (v .relation p) (w .relation p) r), tt);
-    decides = λ p one r. f .decides p one (or-parts (v .relation p) (w .relation p) r .0);
-    calls = omega (arith, f .calls, g .calls, parts .calls);
-    placed = tt;
-  }
+  tube = f .tube;
+  inside = f .inside;
+  loses-none = λ p l r. (⊎-elim (λ e. f .loses-none p l e .0) (λ e. absurd (g .loses-none p l e .1)) (or-cases (v .relation p) (w .relation p) r), tt);
+  decides = λ p one r. f .decides p one (or-parts (v .relation p) (w .relation p) r .0);
+  calls = omega (arith, f .calls, g .calls, parts .calls);
+  placed = tt;
+}
 united-fair v w t parts (Empty fault) (Kept mark) a b first second f g = record {
-    tube = g .tube;
-    inside = g .inside;
-    loses-none = λ p l r. (⊎-elim (λ e. absurd (f .loses-none p l e .1)) (λ e. g .loses-none p l e .0) (or-cases (v .relation p) (w .relation p) r), tt);
-    decides = λ p one r. g .decides p one (or-parts (v .relation p) (w .relation p) r .1);
-    calls = omega (arith, f .calls, g .calls, parts .calls);
-    placed = tt;
-  }
+  tube = g .tube;
+  inside = g .inside;
+  loses-none = λ p l r. (⊎-elim (λ e. absurd (f .loses-none p l e .1)) (λ e. g .loses-none p l e .0) (or-cases (v .relation p) (w .relation p) r), tt);
+  decides = λ p one r. g .decides p one (or-parts (v .relation p) (w .relation p) r .1);
+  calls = omega (arith, f .calls, g .calls, parts .calls);
+  placed = tt;
+}
 united-fair v w t parts (Empty fault) (Empty other) a b first second f g = record {
-    tube = accepted-facts v t (parts .first) .tube;
-    inside = inside-same t;
-    loses-none = λ p l r. absurd (⊎-elim (λ e. f .loses-none p l e .1) (λ e. g .loses-none p l e .1) (or-cases (v .relation p) (w .relation p) r));
-    decides = λ p one r. tt;
-    calls = omega (arith, f .calls, g .calls, parts .calls);
-    placed =
-        named-either (λ e. Placed (either v w .height) (length t) (Empty (passed-up either-digit e))) fault other
-            (passed-placed either-digit _ _ (length t) fault (omega arith) (parts .first-lower) (f .placed))
-            (passed-placed either-digit _ _ (length t) other (omega arith) (parts .second-lower) (g .placed));
-  }
+  tube = accepted-facts v t (parts .first) .tube;
+  inside = inside-same t;
+  loses-none = λ p l r. absurd (⊎-elim (λ e. f .loses-none p l e .1) (λ e. g .loses-none p l e .1) (or-cases (v .relation p) (w .relation p) r));
+  decides = λ p one r. tt;
+  calls = omega (arith, f .calls, g .calls, parts .calls);
+  placed =
+      named-either (λ e. Placed (either v w .height) (length t) (Empty (passed-up either-digit e))) fault other
+      (passed-placed either-digit _ _ (length t) fault (omega arith) (parts .first-lower) (f .placed))
+      (passed-placed either-digit _ _ (length t) other (omega arith) (parts .second-lower) (g .placed));
+}
 
 pub either-keeps : (v w : Value) → Keeps v → Keeps w → Keeps (either v w)
 either-keeps v w k l =
     over-two-keeps v w _ _ k l (λ t parts.
-        united-fair v w t parts (v .narrowed t .answer .verdict) (w .narrowed t .answer .verdict) _ _ (v .narrowed t .tube) (w .narrowed t .tube) (k .fair t (parts .first)) (l .fair t (parts .second)))
+    united-fair v w t parts (v .narrowed t .answer .verdict) (w .narrowed t .answer .verdict) _ _ (v .narrowed t .tube) (w .narrowed t .tube) (k .fair t (parts .first)) (l .fair t (parts .second)))

@@ -5,3 +5,6 @@ pub mod Layers
 pub mod Compositions
 pub mod Unions
 pub mod Repetitions
+pub mod Builds
+pub mod Counts
+pub mod RoundCounts
