@@ -1,13 +1,14 @@
 -- The hull of two tubes, cell by cell. Assumes nothing.
 use mathlib.Core.Path.{_≡_, refl}
 use mathlib.Core.Bool.{true, _&&_}
-use mathlib.Core.List.{List, [], _∷_}
+use mathlib.Core.List.{List, [], _∷_, _++_}
 use native.Mathlib.Omega.{arith}
-use Prim.Native.Nat.{ℕ, suc}
-use lib.ListN.{length}
+use Prim.Native.Nat.{ℕ, suc, _+_, _≤_, _<_}
+use lib.ListN.{length, take, drop, set}
+use Rattle.std.proofs.shelf.Lists.{append-assoc, append-nil, length-set, take-all, take-more-set, drop-all, drop-more, drop-set-lt}
 use Rattle.std.proofs.shelf.Signed.{ints, clamps}
 use Rattle.std.proofs.shelf.Tests.{and-parts, and-from}
-use Rattle.tube.specs.Tubes.{is-interval, all-intervals, is-tube, Within, Inside}
+use Rattle.tube.specs.Tubes.{nowhere, cell, is-interval, all-intervals, is-tube, Within, Inside}
 use Rattle.tube.specs.declared.row.Row.{Row}
 use Rattle.tube.proofs.Ends.{spanned, spans-from}
 use Rattle.tube.proofs.Insides.{inside-length}
@@ -61,3 +62,32 @@ hulls-tube a b same h k =
     let f = tube a h in
     let l = inside-length a (hulls a b) (first-inside a b same) in
     tube-from (hulls a b) (omega arith) (omega arith) (hulls-intervals a b (f .each) (tube b k .each))
+
+-- The rows below i are hulls already, and those from i on are as they were: the invariant of the loop that takes the hulls.
+pub record Widened (other before table : List Row) (i : ℕ) : Type 0 where
+  pub long : length other ≡ length table
+  pub so-far : take i table ++ hulls (drop i other) (drop i table) ≡ hulls other before
+
+pub widened-none : (other before : List Row) → length other ≡ length before → Widened other before before 0
+widened-none other before same = record { long = same; so-far = refl }
+
+pub widened-more : (other before table : List Row) (i : ℕ) (x : Row) → i < length other → x ≡ hull (cell other i) (cell table i) → Widened other before table i → Widened other before (set table i x) (i + 1)
+widened-more other before table i x within is w =
+    let same = w .long in
+    let here : i < length table = omega arith in
+    let front = take-more-set table i x here in
+    let back = drop-set-lt (i + 1) table i x (omega arith) in
+    let first = drop-more other i nowhere within in
+    let second = drop-more table i nowhere here in
+    let joined = append-assoc (take i table) (x ∷ []) (hulls (drop (i + 1) other) (drop (i + 1) table)) in
+    let so-far = w .so-far in
+    record { long = rw length-set same; so-far = cc }
+
+pub widened-all : (other before table : List Row) (i : ℕ) → length other ≤ i → Widened other before table i → table ≡ hulls other before
+widened-all other before table i past w =
+    let same = w .long in
+    let front = take-all i table (omega arith) in
+    let back = drop-all i other past in
+    let joined = append-nil table in
+    let so-far = w .so-far in
+    cc

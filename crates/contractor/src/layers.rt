@@ -8,10 +8,13 @@ use crate::refusal::MAX_CALLS;
 use crate::refusal::MAX_LAYERS;
 
 mod both;
+mod either;
 mod rounds;
 
 pub use both::Both;
 pub use both::BothContractor;
+pub use either::Either;
+pub use either::EitherContractor;
 pub use rounds::Rounds;
 
 // The height of a layer over parts of this height.

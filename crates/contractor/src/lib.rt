@@ -13,6 +13,8 @@ pub use build::BuildRefusal;
 pub use contractor::Contractor;
 pub use layers::Both;
 pub use layers::BothContractor;
+pub use layers::Either;
+pub use layers::EitherContractor;
 pub use layers::Rounds;
 pub use refusal::MAX_CALLS;
 pub use refusal::MAX_LAYERS;
