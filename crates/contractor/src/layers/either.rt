@@ -53,14 +53,24 @@ fn widen(table: &mut [Row], other: &[Row])
     }
 }
 
-impl<A: Contractor, B: Contractor> Either<A, B> {
-    // A use that is not refused, with a spare table as long as the tube.
-    fn unite(&mut self, tube: &mut [Row], spare: &mut [Row]) -> Answer
-        requires accepted { ⌜ Accepted (either (A·Contractor .value (now self .first)) (B·Contractor .value (now self .second))) (now tube) ⌝ }
-        requires sized { ⌜ length (now spare) ≡ length (now tube) ⌝ }
-        ensures same { λ _. ⌜ either (A·Contractor .value (now (self .exit) .first)) (B·Contractor .value (now (self .exit) .second)) ≡ either (A·Contractor .value (now (self .entry) .first)) (B·Contractor .value (now (self .entry) .second)) ⌝ }
-        ensures answer { λ r. ⌜ leaving r (now (tube .exit)) ≡ either (A·Contractor .value (now (self .entry) .first)) (B·Contractor .value (now (self .entry) .second)) .narrowed (now (tube .entry)) ⌝ }
-    {
+pub impl<A: Contractor, B: Contractor> Contractor for Either<A, B> as EitherContractor {
+    ghost value = { λ c. either (A·Contractor .value (c .first)) (B·Contractor .value (c .second)) };
+
+    fn need(&self) -> usize {
+        self.first.need().max(self.second.need())
+    }
+
+    fn height(&self) -> u8 {
+        height_above(self.first.height().max(self.second.height()))
+    }
+
+    fn ceiling(&self) -> u64 {
+        capped_calls(self.first.ceiling() + self.second.ceiling())
+    }
+
+    fn narrow(&mut self, tube: &mut [Row]) -> Answer {
+        let mut rows = [Row { low: 0, high: 0 }; MAX_CELLS];
+        let spare = &mut rows[0..tube.len()];
         spare.copy_from_slice(tube);
         let first = self.first.narrow(spare);
         if let Verdict::Empty(_) = first.verdict {
@@ -84,26 +94,5 @@ impl<A: Contractor, B: Contractor> Either<A, B> {
                 Answer::empty(with_digit(passed_fault(fault, other), DIGIT), calls)
             }
         }
-    }
-}
-
-pub impl<A: Contractor, B: Contractor> Contractor for Either<A, B> as EitherContractor {
-    ghost value = { λ c. either (A·Contractor .value (c .first)) (B·Contractor .value (c .second)) };
-
-    fn need(&self) -> usize {
-        self.first.need().max(self.second.need())
-    }
-
-    fn height(&self) -> u8 {
-        height_above(self.first.height().max(self.second.height()))
-    }
-
-    fn ceiling(&self) -> u64 {
-        capped_calls(self.first.ceiling() + self.second.ceiling())
-    }
-
-    fn narrow(&mut self, tube: &mut [Row]) -> Answer {
-        let mut rows = [Row { low: 0, high: 0 }; MAX_CELLS];
-        self.unite(tube, &mut rows[0..tube.len()])
     }
 }
