@@ -5,4 +5,5 @@ pub mod Sequences
 pub mod Composing
 pub mod Hulls
 pub mod Uniting
+pub mod Sames
 pub mod Repeating

@@ -1,18 +1,21 @@
 -- A repetition keeps the meaning where its part does. Assumes nothing.
-use mathlib.Core.Path.{_≡_}
-use mathlib.Core.Bool.{true, false}
+use mathlib.Core.Path.{_≡_, refl, sym, ap, subst, _∙_}
+use mathlib.Core.Bool.{Bool, true, false}
 use mathlib.Core.List.{List}
 use native.Mathlib.Nat.{suc-mul, not-suc-le-zero}
 use native.Mathlib.Omega.{arith}
-use Prim.Native.Nat.{ℕ, zero, suc, _+_, _*_, _≤_, _<_}
+use Prim.Native.Nat.{ℕ, zero, suc, _+_, _-_, _*_, _≤_, _<_}
 use lib.ListN.{length}
-use Rattle.std.proofs.shelf.Tests.{cond-both}
+use Rattle.std.specs.declared.option.Option.{Option}
+use Rattle.std.specs.declared.option.Option.the-variants.{Some, None}
 use Rattle.tube.specs.declared.row.Row.{Row}
 use Rattle.tube.proofs.Insides.{inside-same}
-use Rattle.contractor.specs.Answers.{IsEmpty, kept}
+use Rattle.contractor.specs.Answers.{IsEmpty}
 use Rattle.contractor.specs.Contractors.{Value, Narrowed, Accepted, Fair, Keeps}
 use Rattle.contractor.specs.Layers.{leaving}
-use Rattle.contractor.specs.Repetitions.{repeat-digit, same-rows, round-end, rounds, repeat}
+use Rattle.contractor.specs.Refusals.{most-layers, most-calls}
+use Rattle.contractor.specs.Repetitions.{repeat-digit, same-rows, round-end, ended-or, rounds, repeat}
+use Rattle.contractor.specs.declared.answer.Answer.{Answer}
 use Rattle.contractor.specs.declared.answer.Verdict.{Verdict}
 use Rattle.contractor.specs.declared.answer.Verdict.the-variants.{Kept, Empty}
 use Rattle.contractor.proofs.Accepting.{Accepts, accepted-facts, accepted-from, accepted-inside}
@@ -21,12 +24,10 @@ use Rattle.contractor.proofs.Sequences.{Sound, sound-after, fair-from}
 
 -- Rounds, however many are left, are sound. That they decide on a tube of one trajectory is the first round's doing.
 module _ (v : Value) (height ceiling : ℕ) (lower : v .height < height) where
-  round-sound : (x : Verdict) (calls spent : ℕ) (t u : List Row) (rest : Narrowed) → spent ≤ ceiling → Fair v t (leaving (record { verdict = x; calls = calls }) u) → Sound (v .relation) height ceiling u rest → Sound (v .relation) height ceiling t (round-end x spent t u rest)
-  round-sound (Kept mark) calls spent t u rest few f s =
-      cond-both (same-rows t u) (leaving (kept mark spent) u) rest (Sound (v .relation) height ceiling t)
-      (λ _. record { tube = f .tube; inside = f .inside; loses-none = f .loses-none; calls = few; placed = tt })
-      (λ _. sound-after (v .relation) height ceiling t u rest (f .inside) (λ p l r. f .loses-none p l r .0) s)
-  round-sound (Empty fault) calls spent t u rest few f s = record {
+  round-sound : (x : Verdict) (same : Bool) (calls spent : ℕ) (t u : List Row) (rest : Narrowed) → spent ≤ ceiling → Fair v t (leaving (record { verdict = x; calls = calls }) u) → Sound (v .relation) height ceiling u rest → Sound (v .relation) height ceiling t (ended-or (round-end x spent same) u rest)
+  round-sound (Kept mark) true calls spent t u rest few f s = record { tube = f .tube; inside = f .inside; loses-none = f .loses-none; calls = few; placed = tt }
+  round-sound (Kept mark) false calls spent t u rest few f s = sound-after (v .relation) height ceiling t u rest (f .inside) (λ p l r. f .loses-none p l r .0) s
+  round-sound (Empty fault) same calls spent t u rest few f s = record {
     tube = f .tube;
     inside = f .inside;
     loses-none = f .loses-none;
@@ -46,12 +47,12 @@ module _ (v : Value) (height ceiling : ℕ) (lower : v .height < height) where
       let u : Narrowed = v .narrowed t in
       let f = k .fair t a in
       let product = suc-mul left (v .ceiling) in
-      round-sound (u .answer .verdict) (u .answer .calls) _ t (u .tube) _ (omega (arith, f .calls)) f
+      round-sound (u .answer .verdict) (same-rows t (u .tube)) (u .answer .calls) _ t (u .tube) _ (omega (arith, f .calls)) f
       (rounds-sound k left (calls + u .answer .calls) (u .tube) (accepted-inside v t (u .tube) a (f .tube) (f .inside)) (omega (arith, f .calls)))
 
-round-empty : (x : Verdict) (spent : ℕ) (t u : List Row) (rest : Narrowed) → IsEmpty x → IsEmpty (round-end x spent t u rest .answer .verdict)
-round-empty (Kept mark) spent t u rest h = absurd h
-round-empty (Empty fault) spent t u rest h = tt
+round-empty : (x : Verdict) (same : Bool) (spent : ℕ) (u : List Row) (rest : Narrowed) → IsEmpty x → IsEmpty (ended-or (round-end x spent same) u rest .answer .verdict)
+round-empty (Kept mark) same spent u rest h = absurd h
+round-empty (Empty fault) same spent u rest h = tt
 
 -- the part of a repetition that is not refused: it is not refused either, and nothing was capped
 pub record Part (r : ℕ) (v : Value) (t : List Row) : Type 0 where
@@ -75,7 +76,7 @@ repeat-fair zero v t some k p = absurd (not-suc-le-zero some)
 repeat-fair (suc r) v t some k p =
     let s = rounds-sound v (repeat (suc r) v .height) (repeat (suc r) v .ceiling) (p .lower) k (suc r) 0 t (p .accepted) (omega (arith, p .calls)) in
     fair-from (repeat (suc r) v) t (rounds v (suc r) 0 t) s
-    (λ q one e. round-empty (v .narrowed t .answer .verdict) _ t _ _ (k .fair t (p .accepted) .decides q one e))
+    (λ q one e. round-empty (v .narrowed t .answer .verdict) (same-rows t (v .narrowed t .tube)) _ _ _ (k .fair t (p .accepted) .decides q one e))
 
 pub repeat-keeps : (r : ℕ) (v : Value) → 1 ≤ r → Keeps v → Keeps (repeat r v)
 repeat-keeps r v some k = record {
@@ -84,3 +85,58 @@ repeat-keeps r v some k = record {
   height = omega arith;
   ceiling = omega arith;
 }
+
+-- How far a repetition has come, which is the loop's invariant: the rounds left over make of the tube what all rounds make of the tube as it came in.
+-- The part is the same value throughout, v as the use begins and current now.
+pub record Going (r : ℕ) (v current : Value) (t u : List Row) (done calls : ℕ) : Type 0 where
+  pub same : current ≡ v
+  pub answer : rounds current (r - done) calls u ≡ rounds v r 0 t
+  pub accepted : Accepted current u
+  pub low : current .height < most-layers
+  pub few : calls + (r - done) * current .ceiling ≤ most-calls
+
+pub going-none : (r : ℕ) (v : Value) (t : List Row) → 1 ≤ r → Accepted (repeat r v) t → Going r v v t t 0 0
+going-none r v t some a =
+    let p = part r v t some a in
+    let f = accepted-facts (repeat r v) t a in
+    let all : r - 0 ≡ r = omega arith in
+    record {
+      same = refl;
+      answer = ap (λ n. rounds v n 0 t) all;
+      accepted = p .accepted;
+      low = omega (arith, p .lower, f .height);
+      few = omega (arith, p .calls, f .ceiling, ap (λ n. n * v .ceiling) all);
+    }
+
+one-less : (r done ceiling : ℕ) → done < r → (r - done) * ceiling ≡ (r - (done + 1)) * ceiling + ceiling
+one-less r done ceiling more =
+    let left : r - done ≡ suc (r - (done + 1)) = omega arith in
+    ap (λ n. n * ceiling) left ∙ suc-mul (r - (done + 1)) ceiling
+
+module _ (r : ℕ) (v current : Value) (t u : List Row) (done calls : ℕ) (going : Going r v current t u done calls) (more : done < r) where
+  -- there are calls enough for one more round
+  pub going-few : calls + current .ceiling ≤ most-calls
+  going-few = omega (arith, going .few, one-less r done (current .ceiling) more)
+
+  -- one more round, by the tube that it left, the calls so far, and its end or that it has none
+  module _ (u′ : List Row) (calls′ : ℕ) (end : Option Answer) (narrowed : u′ ≡ current .narrowed u .tube) (counted : calls′ ≡ calls + current .narrowed u .answer .calls) (ended : end ≡ round-end (current .narrowed u .answer .verdict) calls′ (same-rows u u′)) where
+    one-round : ended-or end u′ (rounds current (r - (done + 1)) calls′ u′) ≡ rounds v r 0 t
+    one-round =
+        let left : r - done ≡ suc (r - (done + 1)) = omega arith in
+        let answer = going .answer in
+        cc
+
+    pub going-ended : (answer : Answer) → end ≡ Some answer → leaving answer u′ ≡ rounds v r 0 t
+    going-ended answer is = let all = one-round in cc
+
+    pub going-more : Keeps current → end ≡ None → (next : Value) → next ≡ current → Going r v next t u′ (done + 1) calls′
+    going-more k is next unchanged =
+        let all = one-round in
+        let f = k .fair u (going .accepted) in
+        subst (λ w. Going r v w t u′ (done + 1) calls′) (sym unchanged) (record {
+          same = going .same;
+          answer = cc;
+          accepted = subst (Accepted current) (sym narrowed) (accepted-inside current u (current .narrowed u .tube) (going .accepted) (f .tube) (f .inside));
+          low = going .low;
+          few = omega (arith, going .few, one-less r done (current .ceiling) more, f .calls);
+        })

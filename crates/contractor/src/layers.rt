@@ -9,12 +9,15 @@ use crate::refusal::MAX_LAYERS;
 
 mod both;
 mod either;
+mod repeat;
 mod rounds;
 
 pub use both::Both;
 pub use both::BothContractor;
 pub use either::Either;
 pub use either::EitherContractor;
+pub use repeat::Repeat;
+pub use repeat::RepeatContractor;
 pub use rounds::Rounds;
 
 // The height of a layer over parts of this height.

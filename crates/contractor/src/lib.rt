@@ -15,6 +15,8 @@ pub use layers::Both;
 pub use layers::BothContractor;
 pub use layers::Either;
 pub use layers::EitherContractor;
+pub use layers::Repeat;
+pub use layers::RepeatContractor;
 pub use layers::Rounds;
 pub use refusal::MAX_CALLS;
 pub use refusal::MAX_LAYERS;
