@@ -1,26 +1,25 @@
 -- A composition keeps the meaning where its parts do. Assumes nothing.
-use mathlib.Core.Path.{_≡_, refl, sym, subst, _∙_}
-use mathlib.Core.Bool.{Bool, true, false, _&&_}
+use mathlib.Core.Path.{_≡_, refl, sym, subst}
+use mathlib.Core.Bool.{true, _&&_}
 use mathlib.Core.Logic.{⊎-elim}
 use mathlib.Core.List.{List}
 use native.Mathlib.Omega.{arith}
-use Prim.Native.Nat.{ℕ, _+_, _*_, _^_, _≤_, _<_}
+use Prim.Native.Nat.{ℕ, _+_}
 use lib.ListN.{length}
-use Rattle.std.proofs.shelf.Tests.{and-parts, and-cases, cases-bool}
+use Rattle.std.proofs.shelf.Tests.{and-parts, cases-bool}
 use Rattle.tube.specs.Tubes.{Trajectory, Lies, Inside, single}
 use Rattle.tube.specs.declared.row.Row.{Row}
 use Rattle.tube.proofs.Trajectories.{in-single}
 use Rattle.contractor.specs.Answers.{IsKept, IsEmpty, Placed, kept, emptied}
-use Rattle.contractor.specs.Contractors.{Value, Narrowed, Accepted, Fair, Keeps}
+use Rattle.contractor.specs.Contractors.{Value, Narrowed, Fair, Keeps}
 use Rattle.contractor.specs.Layers.{leaving}
-use Rattle.contractor.specs.Compositions.{first-digit, second-digit, second-answer, after-first, composed, both}
-use Rattle.contractor.specs.Refusals.{most-calls}
+use Rattle.contractor.specs.Compositions.{first-digit, second-digit, second-answer, after-first, both}
 use Rattle.contractor.specs.declared.answer.Fault.{Fault}
 use Rattle.contractor.specs.declared.answer.Mark.{Mark}
 use Rattle.contractor.specs.declared.answer.Verdict.{Verdict}
 use Rattle.contractor.specs.declared.answer.Verdict.the-variants.{Kept, Empty}
-use Rattle.contractor.proofs.Accepting.{accepted-facts, accepted-inside, used-fair}
-use Rattle.contractor.proofs.Layering.{passed-placed, passed-fits, Pair, pair, over-two-keeps}
+use Rattle.contractor.proofs.Accepting.{accepted-inside}
+use Rattle.contractor.proofs.Layering.{passed-placed, Pair, over-two-keeps}
 use Rattle.contractor.proofs.Sequences.{sound-after, fair-from}
 use Rattle.contractor.proofs.Singles.{single-left}
 
@@ -29,6 +28,18 @@ obeyed : (v : Value) (t : List Row) (p : Trajectory) (mark : Mark) (calls : ℕ)
 obeyed v t p mark calls u one f =
     let in′ : v .relation p ≡ true = ⊎-elim (λ e. e) (λ e. absurd (f .decides p one e)) (cases-bool (v .relation p)) in
     (in′, single-left u p (subst (Inside u) one (f .inside)) (f .loses-none p (subst (λ s. Lies s p) (sym one) (in-single p)) in′ .0))
+
+second-kept : (mark : Mark) (x : Verdict) (calls : ℕ) → IsKept x → IsKept (second-answer mark x calls .verdict)
+second-kept mark (Kept other) calls h = tt
+second-kept mark (Empty fault) calls h = h
+
+second-empty : (mark : Mark) (x : Verdict) (calls : ℕ) → IsEmpty x → IsEmpty (second-answer mark x calls .verdict)
+second-empty mark (Kept other) calls h = h
+second-empty mark (Empty fault) calls h = tt
+
+second-calls : (mark : Mark) (x : Verdict) (calls : ℕ) → second-answer mark x calls .calls ≡ calls
+second-calls mark (Kept other) calls = refl
+second-calls mark (Empty fault) calls = refl
 
 module _ (v w : Value) (t : List Row) (parts : Pair v w (both v w) t) where
   after-empty : (fault : Fault) (calls : ℕ) (u : List Row) → Fair v t (leaving (emptied fault calls) u) → Fair (both v w) t (after-first w (Empty fault) calls u)
@@ -44,18 +55,6 @@ module _ (v w : Value) (t : List Row) (parts : Pair v w (both v w) t) where
   second-placed : (mark : Mark) (x : Verdict) (calls n : ℕ) → Placed (w .height) n x → Placed (both v w .height) n (second-answer mark x calls .verdict)
   second-placed mark (Kept other) calls n h = tt
   second-placed mark (Empty fault) calls n h = passed-placed second-digit _ _ n fault (omega arith) (parts .second-lower) h
-
-  second-kept : (mark : Mark) (x : Verdict) (calls : ℕ) → IsKept x → IsKept (second-answer mark x calls .verdict)
-  second-kept mark (Kept other) calls h = tt
-  second-kept mark (Empty fault) calls h = h
-
-  second-empty : (mark : Mark) (x : Verdict) (calls : ℕ) → IsEmpty x → IsEmpty (second-answer mark x calls .verdict)
-  second-empty mark (Kept other) calls h = h
-  second-empty mark (Empty fault) calls h = tt
-
-  second-calls : (mark : Mark) (x : Verdict) (calls : ℕ) → second-answer mark x calls .calls ≡ calls
-  second-calls mark (Kept other) calls = refl
-  second-calls mark (Empty fault) calls = refl
 
   after-kept : (mark : Mark) (calls : ℕ) (u : List Row) → Fair v t (leaving (kept mark calls) u) → Fair w u (w .narrowed u) → Fair (both v w) t (after-first w (Kept mark) calls u)
   after-kept mark calls u f g =
@@ -78,23 +77,3 @@ module _ (v w : Value) (t : List Row) (parts : Pair v w (both v w) t) where
 
 pub both-keeps : (v w : Value) → Keeps v → Keeps w → Keeps (both v w)
 both-keeps v w k l = over-two-keeps v w _ _ k l (λ t parts. composed-fair v w t parts (v .narrowed t .answer .verdict) (v .narrowed t .answer .calls) (v .narrowed t .tube) l (k .fair t (parts .first)))
-
--- what the code of a use needs: the second part is not refused on what the first left, and its sums fit
-module _ (v w : Value) (k : Keeps v) (l : Keeps w) (t : List Row) (accepted : Accepted (both v w) t) (a : Narrowed) (told : a ≡ v .narrowed t) where
-  parts : Pair v w (both v w) t
-  parts = pair v w _ _ t accepted
-
-  first-fair : Fair v t a
-  first-fair = used-fair v t a k (parts .first) told
-
-  pub first-fits : (fault : Fault) → a .answer .verdict ≡ Empty fault → fault .path * 8 + first-digit < 2 ^ 64
-  first-fits fault is = passed-fits first-digit _ _ (length t) _ fault (omega arith) (parts .first-lower) (accepted-facts (both v w) t accepted .height) (first-fair .placed) is
-
-  pub second-accepted : Accepted w (a .tube)
-  second-accepted = accepted-inside w t (a .tube) (parts .second) (first-fair .tube) (first-fair .inside)
-
-  pub both-calls : (b : Narrowed) → b ≡ w .narrowed (a .tube) → a .answer .calls + b .answer .calls ≤ most-calls
-  both-calls b told-too = omega (arith, first-fair .calls, used-fair w (a .tube) b l second-accepted told-too .calls, parts .calls, accepted-facts (both v w) t accepted .ceiling)
-
-  pub second-fits : (b : Narrowed) → b ≡ w .narrowed (a .tube) → (fault : Fault) → b .answer .verdict ≡ Empty fault → fault .path * 8 + second-digit < 2 ^ 64
-  second-fits b told-too fault is = passed-fits second-digit _ _ (length (a .tube)) _ fault (omega arith) (parts .second-lower) (accepted-facts (both v w) t accepted .height) (used-fair w (a .tube) b l second-accepted told-too .placed) is

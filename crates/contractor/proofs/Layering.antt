@@ -1,5 +1,5 @@
 -- What every layer's proof uses: the figures of its parts, and faults passed up. Assumes nothing.
-use mathlib.Core.Path.{_≡_, subst}
+use mathlib.Core.Path.{_≡_}
 use mathlib.Core.Bool.{Bool}
 use mathlib.Core.List.{List}
 use native.Mathlib.Nat.{pow-suc, pow-le-pow-right}
@@ -11,10 +11,9 @@ use Rattle.tube.specs.declared.row.Row.{Row}
 use Rattle.contractor.specs.Answers.{Placed}
 use Rattle.contractor.specs.Contractors.{Value, Narrowed, Accepted, Fair, Keeps}
 use Rattle.contractor.specs.Layers.{above, capped, passed-up, over-two}
-use Rattle.contractor.specs.Refusals.{most-layers}
 use Rattle.contractor.specs.declared.answer.Fault.{Fault}
 use Rattle.contractor.specs.declared.answer.Verdict.{Verdict}
-use Rattle.contractor.specs.declared.answer.Verdict.the-variants.{Empty}
+use Rattle.contractor.specs.declared.answer.Verdict.the-variants.{Kept, Empty}
 use Rattle.contractor.proofs.Accepting.{Accepts, accepted-facts, accepted-from}
 
 -- a fault that is passed up has a path of one digit more
@@ -23,11 +22,11 @@ passed-placed digit part layer n f small lower h =
     let power = pow-le-pow-right {n = 8} (omega arith) {i = suc part} {j = layer} lower in
     (omega (arith, pow-suc 8 part, h .0), h .1)
 
--- the path of such a fault fits 64 bits, where the layer is not refused for its height
-pub passed-fits : (digit part layer n : ℕ) (x : Verdict) (f : Fault) → digit < 8 → part < layer → layer ≤ most-layers → Placed part n x → x ≡ Empty f → f .path * 8 + digit < 2 ^ 64
-passed-fits digit part layer n x f small lower low h is =
-    let power = pow-le-pow-right {n = 8} (omega arith) {i = layer} {j = most-layers} low in
-    omega (arith, passed-placed digit part layer n f small lower (subst (Placed part n) is h) .0)
+pub placed-higher : (part layer n : ℕ) (x : Verdict) → part ≤ layer → Placed part n x → Placed layer n x
+placed-higher part layer n (Kept mark) lower h = tt
+placed-higher part layer n (Empty f) lower h =
+    let power = pow-le-pow-right {n = 8} (omega arith) {i = part} {j = layer} lower in
+    (omega (arith, h .0), h .1)
 
 -- the parts of a layer over two that is not refused: they are not refused either, and nothing was capped
 pub record Pair (v w layer : Value) (t : List Row) : Type 0 where

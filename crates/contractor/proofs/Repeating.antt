@@ -13,8 +13,8 @@ use Rattle.tube.proofs.Insides.{inside-same}
 use Rattle.contractor.specs.Answers.{IsEmpty}
 use Rattle.contractor.specs.Contractors.{Value, Narrowed, Accepted, Fair, Keeps}
 use Rattle.contractor.specs.Layers.{leaving}
-use Rattle.contractor.specs.Refusals.{most-layers, most-calls}
-use Rattle.contractor.specs.Repetitions.{repeat-digit, same-rows, round-end, ended-or, rounds, repeat}
+use Rattle.contractor.specs.Refusals.{most-calls}
+use Rattle.contractor.specs.Repetitions.{repeat-digit, same-rows, round-end, Round, ended-or, rounds, repeat}
 use Rattle.contractor.specs.declared.answer.Answer.{Answer}
 use Rattle.contractor.specs.declared.answer.Verdict.{Verdict}
 use Rattle.contractor.specs.declared.answer.Verdict.the-variants.{Kept, Empty}
@@ -92,51 +92,34 @@ pub record Going (r : ℕ) (v current : Value) (t u : List Row) (done calls : �
   pub same : current ≡ v
   pub answer : rounds current (r - done) calls u ≡ rounds v r 0 t
   pub accepted : Accepted current u
-  pub low : current .height < most-layers
-  pub few : calls + (r - done) * current .ceiling ≤ most-calls
+  pub few : calls ≤ done * most-calls
 
 pub going-none : (r : ℕ) (v : Value) (t : List Row) → 1 ≤ r → Accepted (repeat r v) t → Going r v v t t 0 0
 going-none r v t some a =
-    let p = part r v t some a in
-    let f = accepted-facts (repeat r v) t a in
     let all : r - 0 ≡ r = omega arith in
-    record {
-      same = refl;
-      answer = ap (λ n. rounds v n 0 t) all;
-      accepted = p .accepted;
-      low = omega (arith, p .lower, f .height);
-      few = omega (arith, p .calls, f .ceiling, ap (λ n. n * v .ceiling) all);
-    }
+    record { same = refl; answer = ap (λ n. rounds v n 0 t) all; accepted = part r v t some a .accepted; few = omega arith }
 
-one-less : (r done ceiling : ℕ) → done < r → (r - done) * ceiling ≡ (r - (done + 1)) * ceiling + ceiling
-one-less r done ceiling more =
-    let left : r - done ≡ suc (r - (done + 1)) = omega arith in
-    ap (λ n. n * ceiling) left ∙ suc-mul (r - (done + 1)) ceiling
+-- one more round, by the tube that it left, the calls so far, and its end or that it has none
+module _ (r : ℕ) (v current : Value) (t u : List Row) (done calls : ℕ) (going : Going r v current t u done calls) (more : done < r) (left : List Row) (spent : ℕ) (end : Option Answer) (round : Round current u calls left spent end) where
+  one-round : ended-or end left (rounds current (r - (done + 1)) spent left) ≡ rounds v r 0 t
+  one-round =
+      let fewer : r - done ≡ suc (r - (done + 1)) = omega arith in
+      let answer = going .answer in
+      let narrowed = round .narrowed in
+      let counted = round .counted in
+      let ended = round .ended in
+      cc
 
-module _ (r : ℕ) (v current : Value) (t u : List Row) (done calls : ℕ) (going : Going r v current t u done calls) (more : done < r) where
-  -- there are calls enough for one more round
-  pub going-few : calls + current .ceiling ≤ most-calls
-  going-few = omega (arith, going .few, one-less r done (current .ceiling) more)
+  pub going-ended : (answer : Answer) → end ≡ Some answer → leaving answer left ≡ rounds v r 0 t
+  going-ended answer is = let all = one-round in cc
 
-  -- one more round, by the tube that it left, the calls so far, and its end or that it has none
-  module _ (u′ : List Row) (calls′ : ℕ) (end : Option Answer) (narrowed : u′ ≡ current .narrowed u .tube) (counted : calls′ ≡ calls + current .narrowed u .answer .calls) (ended : end ≡ round-end (current .narrowed u .answer .verdict) calls′ (same-rows u u′)) where
-    one-round : ended-or end u′ (rounds current (r - (done + 1)) calls′ u′) ≡ rounds v r 0 t
-    one-round =
-        let left : r - done ≡ suc (r - (done + 1)) = omega arith in
-        let answer = going .answer in
-        cc
-
-    pub going-ended : (answer : Answer) → end ≡ Some answer → leaving answer u′ ≡ rounds v r 0 t
-    going-ended answer is = let all = one-round in cc
-
-    pub going-more : Keeps current → end ≡ None → (next : Value) → next ≡ current → Going r v next t u′ (done + 1) calls′
-    going-more k is next unchanged =
-        let all = one-round in
-        let f = k .fair u (going .accepted) in
-        subst (λ w. Going r v w t u′ (done + 1) calls′) (sym unchanged) (record {
-          same = going .same;
-          answer = cc;
-          accepted = subst (Accepted current) (sym narrowed) (accepted-inside current u (current .narrowed u .tube) (going .accepted) (f .tube) (f .inside));
-          low = going .low;
-          few = omega (arith, going .few, one-less r done (current .ceiling) more, f .calls);
-        })
+  pub going-more : Keeps current → end ≡ None → (next : Value) → next ≡ current → Going r v next t left (done + 1) spent
+  going-more k is next unchanged =
+      let all = one-round in
+      let f = k .fair u (going .accepted) in
+      subst (λ w. Going r v w t left (done + 1) spent) (sym unchanged) (record {
+        same = going .same;
+        answer = cc;
+        accepted = subst (Accepted current) (sym (round .narrowed)) (accepted-inside current u (current .narrowed u .tube) (going .accepted) (f .tube) (f .inside));
+        few = omega (arith, going .few, round .counted, f .calls, accepted-facts current u (going .accepted) .ceiling);
+      })

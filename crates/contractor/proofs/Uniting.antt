@@ -1,30 +1,28 @@
 -- A union keeps the meaning where its parts do. Assumes nothing.
-use mathlib.Core.Path.{_≡_, sym, subst, _∙_}
-use mathlib.Core.Bool.{Bool, true, false, _||_}
+use mathlib.Core.Path.{_≡_, sym, _∙_}
+use mathlib.Core.Bool.{_||_}
 use mathlib.Core.Logic.{⊎-elim}
 use mathlib.Core.List.{List}
 use native.Mathlib.Omega.{arith}
-use Prim.Native.Nat.{ℕ, _+_, _*_, _^_, _≤_, _<_}
+use Prim.Native.Nat.{ℕ, _+_}
 use lib.ListN.{length}
 use Rattle.std.proofs.shelf.Tests.{or-cases, or-parts}
-use Rattle.tube.specs.Tubes.{Trajectory, Lies, Inside, single}
 use Rattle.tube.specs.declared.row.Row.{Row}
 use Rattle.tube.proofs.Insides.{inside-same, inside-length}
 use Rattle.tube.proofs.Trajectories.{lies-wider}
-use Rattle.contractor.specs.Answers.{Placed, kept, emptied}
-use Rattle.contractor.specs.Contractors.{Value, Narrowed, Accepted, Fair, Keeps}
+use Rattle.contractor.specs.Answers.{Placed}
+use Rattle.contractor.specs.Contractors.{Value, Narrowed, Fair, Keeps}
 use Rattle.contractor.specs.Layers.{passed-up, leaving}
-use Rattle.contractor.specs.Refusals.{most-calls}
 use Rattle.contractor.specs.Unions.{either-digit, named-fault, hulls, united-by, either}
 use Rattle.contractor.specs.declared.answer.Fault.{Fault}
 use Rattle.contractor.specs.declared.answer.Verdict.{Verdict}
 use Rattle.contractor.specs.declared.answer.Verdict.the-variants.{Kept, Empty}
-use Rattle.contractor.proofs.Accepting.{accepted-facts, used-fair}
+use Rattle.contractor.proofs.Accepting.{accepted-facts}
 use Rattle.contractor.proofs.Hulls.{inside-hulls, first-inside, second-inside, hulls-tube}
-use Rattle.contractor.proofs.Layering.{passed-placed, passed-fits, Pair, pair, over-two-keeps}
+use Rattle.contractor.proofs.Layering.{passed-placed, Pair, over-two-keeps}
 
 -- whichever side's fault is passed up, what holds of both holds of it
-pub named-either : (P : Fault → Type 0) (first second : Fault) → P first → P second → P (named-fault first second)
+named-either : (P : Fault → Type 0) (first second : Fault) → P first → P second → P (named-fault first second)
 named-either P first second h k = h
 
 united-fair : (v w : Value) (t : List Row) → Pair v w (either v w) t → (x y : Verdict) (a b : ℕ) (first second : List Row) → Fair v t (leaving (record { verdict = x; calls = a }) first) → Fair w t (leaving (record { verdict = y; calls = b }) second) → Fair (either v w) t (united-by x y (a + b) t first second)
@@ -70,19 +68,3 @@ pub either-keeps : (v w : Value) → Keeps v → Keeps w → Keeps (either v w)
 either-keeps v w k l =
     over-two-keeps v w _ _ k l (λ t parts.
     united-fair v w t parts (v .narrowed t .answer .verdict) (w .narrowed t .answer .verdict) _ _ (v .narrowed t .tube) (w .narrowed t .tube) (k .fair t (parts .first)) (l .fair t (parts .second)))
-
--- what the code of a use needs: its sums fit
-module _ (v w : Value) (k : Keeps v) (l : Keeps w) (t : List Row) (accepted : Accepted (either v w) t) (a b : Narrowed) (told : a ≡ v .narrowed t) (told-too : b ≡ w .narrowed t) where
-  parts : Pair v w (either v w) t
-  parts = pair v w _ _ t accepted
-
-  pub either-calls : a .answer .calls + b .answer .calls ≤ most-calls
-  either-calls = omega (arith, used-fair v t a k (parts .first) told .calls, used-fair w t b l (parts .second) told-too .calls, parts .calls, accepted-facts (either v w) t accepted .ceiling)
-
-  pub either-fits : (first second named : Fault) → a .answer .verdict ≡ Empty first → b .answer .verdict ≡ Empty second → named ≡ named-fault first second → named .path * 8 + either-digit < 2 ^ 64
-  either-fits first second named is is-too chosen =
-      let low = accepted-facts (either v w) t accepted .height in
-      subst (λ f. f .path * 8 + either-digit < 2 ^ 64) (sym chosen)
-      (named-either (λ f. f .path * 8 + either-digit < 2 ^ 64) first second
-      (passed-fits either-digit _ _ (length t) _ first (omega arith) (parts .first-lower) low (used-fair v t a k (parts .first) told .placed) is)
-      (passed-fits either-digit _ _ (length t) _ second (omega arith) (parts .second-lower) low (used-fair w t b l (parts .second) told-too .placed) is-too))

@@ -1,4 +1,5 @@
 -- The repetition of a contractor: it is used in rounds until a round changes no cell, empties, or was the last. Assumes nothing.
+use mathlib.Core.Path.{_≡_}
 use mathlib.Core.Bool.{Bool, true, false, _&&_}
 use mathlib.Core.List.{List, [], _∷_}
 use Prim.Native.Nat.{ℕ, zero, suc, _+_, _*_}
@@ -35,6 +36,12 @@ abbrev pub round-end : Verdict → ℕ → Bool → Option Answer
 round-end (Kept mark) calls true = Some (kept mark calls)
 round-end (Kept mark) calls false = None
 round-end (Empty fault) calls same = Some (emptied (passed-up repeat-digit fault) calls)
+
+-- what a round of a part does to the tube t after some calls
+pub record Round (v : Value) (t : List Row) (calls : ℕ) (left : List Row) (spent : ℕ) (end : Option Answer) : Type 0 where
+  pub narrowed : left ≡ v .narrowed t .tube
+  pub counted : spent ≡ calls + v .narrowed t .answer .calls
+  pub ended : end ≡ round-end (v .narrowed t .answer .verdict) spent (same-rows t left)
 
 abbrev pub ended-or : Option Answer → List Row → Narrowed → Narrowed
 ended-or (Some answer) t rest = leaving answer t

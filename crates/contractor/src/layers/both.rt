@@ -2,9 +2,10 @@
 ghost use mathlib.Core.Path.{_≡_};
 ghost use Rattle.contractor.specs.Compositions.{both};
 use super::capped_calls;
+use super::either_stopped;
 use super::height_above;
-use super::mark_of_both;
-use super::with_digit;
+use super::passed_up;
+use super::use_part;
 use crate::answer::Answer;
 use crate::answer::Verdict;
 use crate::contractor::Contractor;
@@ -16,7 +17,7 @@ const FIRST: u64 = 1;
 const SECOND: u64 = 2;
 
 // Uses its first part, and then its second on what the first left.
-#[derive(Clone, Copy, Debug, PartialEq)]
+#[derive(Clone, Copy, Debug, Drop, PartialEq)]
 pub struct Both<A, B> {
     pub first: A,
     pub second: B,
@@ -38,15 +39,15 @@ pub impl<A: Contractor, B: Contractor> Contractor for Both<A, B> as BothContract
     }
 
     fn narrow(&mut self, tube: &mut [Row]) -> Answer {
-        let first = self.first.narrow(tube);
+        let first = use_part(&mut self.first, tube);
         match first.verdict {
-            Verdict::Empty(fault) => Answer::empty(with_digit(fault, FIRST), first.calls),
+            Verdict::Empty(fault) => Answer::empty(passed_up(fault, FIRST), first.calls),
             Verdict::Kept(mark) => {
-                let second = self.second.narrow(tube);
+                let second = use_part(&mut self.second, tube);
                 let calls = first.calls + second.calls;
                 match second.verdict {
-                    Verdict::Empty(fault) => Answer::empty(with_digit(fault, SECOND), calls),
-                    Verdict::Kept(other) => Answer::kept(mark_of_both(mark, other), calls),
+                    Verdict::Empty(fault) => Answer::empty(passed_up(fault, SECOND), calls),
+                    Verdict::Kept(other) => Answer::kept(either_stopped(mark, other), calls),
                 }
             }
         }

@@ -1,14 +1,12 @@
 // The union of two contractors.
 ghost use mathlib.Core.Path.{_≡_};
-ghost use Prim.Native.Nat.{ℕ};
 ghost use lib.ListN.{length};
-ghost use Rattle.contractor.specs.Contractors.{Accepted, Narrowed};
-ghost use Rattle.contractor.specs.Layers.{leaving};
 ghost use Rattle.contractor.specs.Unions.{named-fault, hull, hulls, either};
 use super::capped_calls;
+use super::either_stopped;
 use super::height_above;
-use super::mark_of_both;
-use super::with_digit;
+use super::passed_up;
+use super::use_part;
 use crate::answer::Answer;
 use crate::answer::Fault;
 use crate::answer::Verdict;
@@ -20,14 +18,14 @@ use tube::Row;
 const DIGIT: u64 = 3;
 
 // Uses each part on the tube as it came in, and keeps of each cell the hull of what the parts keep.
-#[derive(Clone, Copy, Debug, PartialEq)]
+#[derive(Clone, Copy, Debug, Drop, PartialEq)]
 pub struct Either<A, B> {
     pub first: A,
     pub second: B,
 }
 
 // Which side's fault is passed up where both sides are empty.
-fn passed_fault(first: Fault, _second: Fault) -> Fault
+fn named_fault(first: Fault, _second: Fault) -> Fault
     ensures { λ r. ⌜ r ≡ named-fault first «_second» ⌝ }
 {
     first
@@ -72,17 +70,17 @@ pub impl<A: Contractor, B: Contractor> Contractor for Either<A, B> as EitherCont
         let mut rows = [Row { low: 0, high: 0 }; MAX_CELLS];
         let spare = &mut rows[0..tube.len()];
         spare.copy_from_slice(tube);
-        let first = self.first.narrow(spare);
+        let first = use_part(&mut self.first, spare);
         if let Verdict::Empty(_) = first.verdict {
             // What an empty side left is of no use, but the tube as it came in may be.
             spare.copy_from_slice(tube);
         }
-        let second = self.second.narrow(tube);
+        let second = use_part(&mut self.second, tube);
         let calls = first.calls + second.calls;
         match (first.verdict, second.verdict) {
             (Verdict::Kept(mark), Verdict::Kept(other)) => {
                 widen(tube, spare);
-                Answer::kept(mark_of_both(mark, other), calls)
+                Answer::kept(either_stopped(mark, other), calls)
             }
             (Verdict::Kept(mark), Verdict::Empty(_)) => {
                 tube.copy_from_slice(spare);
@@ -91,7 +89,7 @@ pub impl<A: Contractor, B: Contractor> Contractor for Either<A, B> as EitherCont
             (Verdict::Empty(_), Verdict::Kept(mark)) => Answer::kept(mark, calls),
             (Verdict::Empty(fault), Verdict::Empty(other)) => {
                 tube.copy_from_slice(spare);
-                Answer::empty(with_digit(passed_fault(fault, other), DIGIT), calls)
+                Answer::empty(passed_up(named_fault(fault, other), DIGIT), calls)
             }
         }
     }

@@ -1,17 +1,19 @@
 // The repetition of a contractor.
 ghost use mathlib.Core.Path.{_≡_};
-ghost use Prim.Native.Nat.{ℕ, _+_, _<_, _≤_};
+ghost use Prim.Native.Nat.{_*_, _≤_};
 ghost use lib.ListN.{length};
-ghost use Rattle.contractor.specs.Contractors.{Accepted, Narrowed};
-ghost use Rattle.contractor.specs.Refusals.{most-calls, most-layers};
-ghost use Rattle.contractor.specs.Repetitions.{same-row, same-rows, round-end, repeat};
+ghost use Rattle.contractor.specs.Contractors.{Accepted};
+ghost use Rattle.contractor.specs.Counts.{most-rounds};
+ghost use Rattle.contractor.specs.Refusals.{most-calls};
+ghost use Rattle.contractor.specs.Repetitions.{same-row, same-rows, Round, repeat};
 ghost use Rattle.contractor.specs.RoundCounts.{count-of};
 use super::capped_calls;
 use super::height_above;
+use super::passed_up;
 use super::rounds::Rounds;
 use super::rounds::RoundsDebug;
 use super::rounds::RoundsPartialEq;
-use super::with_digit;
+use super::use_part;
 use crate::answer::Answer;
 use crate::answer::Mark;
 use crate::answer::Verdict;
@@ -23,25 +25,25 @@ use tube::Row;
 const DIGIT: u64 = 4;
 
 // Uses its part in rounds, until one changes no cell, empties, or was the last.
-#[derive(Clone, Copy, Debug, PartialEq)]
+#[derive(Clone, Copy, Debug, Drop, PartialEq)]
 pub struct Repeat<C> {
     pub rounds: Rounds,
     pub part: C,
 }
 
-fn same_ends(first: Row, second: Row) -> bool
+fn same_row(first: Row, second: Row) -> bool
     ensures { λ r. ⌜ r ≡ same-row first second ⌝ }
 {
     first.low == second.low && first.high == second.high
 }
 
 // Whether two tables of one length have the same rows.
-fn same_table(first: &[Row], second: &[Row]) -> bool
+fn same_rows(first: &[Row], second: &[Row]) -> bool
     requires { ⌜ length (now first) ≡ length (now second) ⌝ }
     ensures { λ r. ⌜ r ≡ same-rows (now (first .entry)) (now (second .entry)) ⌝ }
 {
     for (i, row) in first.iter().enumerate() {
-        if !same_ends(*row, second[i]) {
+        if !same_row(*row, second[i]) {
             return false;
         }
     }
@@ -57,25 +59,22 @@ fn round<C: Contractor>(
 ) -> Option<Answer>
     requires accepted { ⌜ Accepted (C·Contractor .value (now part)) (now tube) ⌝ }
     requires sized { ⌜ length (now before) ≡ length (now tube) ⌝ }
-    requires low { ⌜ C·Contractor .value (now part) .height < most-layers ⌝ }
-    requires few { ⌜ now calls + C·Contractor .value (now part) .ceiling ≤ most-calls ⌝ }
+    requires few { ⌜ now calls ≤ most-rounds * most-calls ⌝ }
     ensures same { λ _. ⌜ C·Contractor .value (now (part .exit)) ≡ C·Contractor .value (now (part .entry)) ⌝ }
-    ensures narrowed { λ _. ⌜ now (tube .exit) ≡ C·Contractor .value (now (part .entry)) .narrowed (now (tube .entry)) .tube ⌝ }
-    ensures counted { λ _. ⌜ now (calls .exit) ≡ now (calls .entry) + C·Contractor .value (now (part .entry)) .narrowed (now (tube .entry)) .answer .calls ⌝ }
-    ensures end { λ r. ⌜ r ≡ round-end (C·Contractor .value (now (part .entry)) .narrowed (now (tube .entry)) .answer .verdict) (now (calls .exit)) (same-rows (now (tube .entry)) (now (tube .exit))) ⌝ }
+    ensures round { λ r. ⌜ Round (C·Contractor .value (now (part .entry))) (now (tube .entry)) (now (calls .entry)) (now (tube .exit)) (now (calls .exit)) r ⌝ }
 {
     before.copy_from_slice(tube);
-    let used = part.narrow(tube);
+    let used = use_part(part, tube);
     *calls += used.calls;
     match used.verdict {
         Verdict::Kept(mark) => {
-            if same_table(before, tube) {
+            if same_rows(before, tube) {
                 Some(Answer::kept(mark, *calls))
             } else {
                 None
             }
         }
-        Verdict::Empty(fault) => Some(Answer::empty(with_digit(fault, DIGIT), *calls)),
+        Verdict::Empty(fault) => Some(Answer::empty(passed_up(fault, DIGIT), *calls)),
     }
 }
 
