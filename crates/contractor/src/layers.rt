@@ -23,11 +23,19 @@ mod rounds;
 
 pub use both::Both;
 pub use both::BothContractor;
+pub use both::BothDebug;
+pub use both::BothPartialEq;
 pub use either::Either;
 pub use either::EitherContractor;
+pub use either::EitherDebug;
+pub use either::EitherPartialEq;
 pub use repeat::Repeat;
 pub use repeat::RepeatContractor;
+pub use repeat::RepeatDebug;
+pub use repeat::RepeatPartialEq;
 pub use rounds::Rounds;
+pub use rounds::RoundsDebug;
+pub use rounds::RoundsPartialEq;
 
 // Uses a part that is not refused, and says what is owed of every use: the tube is left a tube, and the answer's numbers stay small.
 fn use_part<C: Contractor>(part: &mut C, tube: &mut [Row]) -> Answer
