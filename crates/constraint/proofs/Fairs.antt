@@ -12,7 +12,7 @@ use Rattle.tube.specs.declared.row.Row.{Row}
 use Rattle.tube.proofs.Insides.{inside-same}
 use Rattle.tube.proofs.Narrower.{Narrower}
 use Rattle.contractor.specs.Contractors.{Value, Narrowed, Fair, Keeps, Accepted}
-use Rattle.contractor.proofs.Uses.{allowed}
+use Rattle.contractor.proofs.Accepting.{accepted-facts}
 use Rattle.constraint.specs.Makings.{last-cell}
 use Rattle.constraint.specs.Constraints.{simple, settled, empty}
 
@@ -40,7 +40,7 @@ module _ (relation : List ℤ → Bool) (greatest : ℕ) (narrowed : List Row �
 -- what a constraint owes beside its uses, once its cells are those of a tube
 pub simple-keeps : (relation : List ℤ → Bool) (greatest : ℕ) (narrowed : List Row → Narrowed) → greatest ≤ last-cell → ((t : List Row) → is-tube t ≡ true → greatest < length t → Fair (simple relation greatest narrowed) t (narrowed t)) → Keeps (simple relation greatest narrowed)
 simple-keeps relation greatest narrowed small fair = record {
-  fair = λ t a. let w = allowed (simple relation greatest narrowed) t a in fair t (w .tube) (omega arith);
+  fair = λ t a. let w = accepted-facts (simple relation greatest narrowed) t a in fair t (w .tube) (omega arith);
   need = omega arith;
   height = omega arith;
   ceiling = omega arith;
