@@ -1,0 +1,2 @@
+pub mod AtMosts
+pub mod Orders
