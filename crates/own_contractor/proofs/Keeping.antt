@@ -69,9 +69,9 @@ module _ (number behind ahead : ℕ) where
         fair-settled obeyed (max behind ahead) (ordered number behind ahead) t (set (set t behind b) ahead a)
         (narrower-set t h (set t behind b) ahead a ahead-in (narrower-set t h t behind b behind-in (narrower-same t h) (k .within) (k .ordered)) (m .within) (m .ordered))
         (λ p l e.
-            let x = behind-holds p l e in
-            let y = ahead-holds p l e in
-            lies-set (set t behind b) p ahead a (lies-set t p behind b l (k .holds (value-at p behind) (lies-at t p behind behind-in l) (x .0) (x .1))) (m .holds (value-at p ahead) (lies-at t p ahead ahead-in l) (y .0) (y .1)))
+        let x = behind-holds p l e in
+        let y = ahead-holds p l e in
+        lies-set (set t behind b) p ahead a (lies-set t p behind b l (k .holds (value-at p behind) (lies-at t p behind behind-in l) (x .0) (x .1))) (m .holds (value-at p ahead) (lies-at t p ahead ahead-in l) (y .0) (y .1)))
         (obeys b k)
 
     fair : Fair (at-most number behind ahead) t (ordered number behind ahead t)

@@ -42,10 +42,10 @@ module _ (number behind ahead : ℕ) where
   abbrev pub ordered : List Row → Narrowed
   ordered t =
       elim (behind-row (cell t behind) (cell t ahead)) [
-        None ↦ empty order-cause number behind t
-      | Some b ↦ elim (ahead-row (cell t behind) (cell t ahead)) [
-          None ↦ empty order-cause number ahead t
-        | Some a ↦ settled (set (set t behind b) ahead a)
+        | None ↦ empty order-cause number behind t
+        | Some b ↦ elim (ahead-row (cell t behind) (cell t ahead)) [
+          | None ↦ empty order-cause number ahead t
+          | Some a ↦ settled (set (set t behind b) ahead a)
         ]
       ]
 

@@ -28,10 +28,17 @@ fn main(rt: LibcRuntime) -> Result<(), AnyError> {
 }
 
 fn show(rt: &LibcRuntime) -> Result<(), AnyError> {
-    rt.println("Cells: 0 the robot at gate 0, 1 its step, 2 the robot at gate 1, 3 the diver at gate 1.")?;
+    rt.println(
+        "Cells: 0 the robot at gate 0, 1 its step, 2 the robot at gate 1, 3 the diver at gate 1.",
+    )?;
     let mut tube = [span(0, 10), span(0, 100), span(0, 500), span(20, 90)];
     let mut behind_diver = AtMost::new(1, 2, 3)?;
-    use_it(rt, "the robot stays behind the diver", &mut behind_diver, &mut tube)?;
+    use_it(
+        rt,
+        "the robot stays behind the diver",
+        &mut behind_diver,
+        &mut tube,
+    )?;
     let moves = Step::new(2, 0, 1, 2)?;
     let either_time = Either {
         first: Bound::new(3, 3, 30, 40)?,
@@ -51,23 +58,41 @@ fn show(rt: &LibcRuntime) -> Result<(), AnyError> {
         rounds,
         part: together,
     };
-    use_it(rt, "five rounds of its steps, of staying behind, and of one of two sightings of the diver", &mut pile, &mut tube)?;
+    use_it(
+        rt,
+        "five rounds of its steps, of staying behind, and of one of two sightings of the diver",
+        &mut pile,
+        &mut tube,
+    )?;
     let mut overtaken = Both {
         first: Bound::new(5, 2, 75, 90)?,
         second: behind_diver,
     };
-    use_it(rt, "a fix that puts the robot ahead of the diver", &mut overtaken, &mut tube)
+    use_it(
+        rt,
+        "a fix that puts the robot ahead of the diver",
+        &mut overtaken,
+        &mut tube,
+    )
 }
 
 fn span(low: i32, high: i32) -> Row {
     Row { low, high }
 }
 
-fn use_it<C: Contractor>(rt: &LibcRuntime, says: &str, contractor: &mut C, tube: &mut [Row]) -> Result<(), AnyError> {
+fn use_it<C: Contractor>(
+    rt: &LibcRuntime,
+    says: &str,
+    contractor: &mut C,
+    tube: &mut [Row],
+) -> Result<(), AnyError> {
     let need = contractor.need();
     let height = contractor.height();
     let ceiling = contractor.ceiling();
-    println!(rt, "\n{says}: needs {need} cells, height {height}, at most {ceiling} calls")?;
+    println!(
+        rt,
+        "\n{says}: needs {need} cells, height {height}, at most {ceiling} calls"
+    )?;
     match contractor.contract(tube) {
         Ok(answer) => {
             let calls = answer.calls;
@@ -79,7 +104,10 @@ fn use_it<C: Contractor>(rt: &LibcRuntime, says: &str, contractor: &mut C, tube:
                     let cause = fault.cause;
                     let cell = fault.cell;
                     let path = fault.path;
-                    println!(rt, "  empty: constraint {number}, cause {cause}, at cell {cell}, path {path}, {calls} calls")?;
+                    println!(
+                        rt,
+                        "  empty: constraint {number}, cause {cause}, at cell {cell}, path {path}, {calls} calls"
+                    )?;
                 }
             }
         }

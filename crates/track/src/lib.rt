@@ -1,6 +1,7 @@
 // A track: a committed tube and proposals to narrow it, under an allowance of calls.
 mod answer;
 mod calls;
+mod figures;
 mod refusal;
 mod standing;
 

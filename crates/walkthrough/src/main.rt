@@ -11,6 +11,7 @@ use std::error::AnyError;
 use tube::Row;
 use tube::RowPartialEq;
 
+mod proposals;
 mod swim;
 
 use swim::ANYWHERE;
@@ -34,7 +35,9 @@ fn tour(rt: &LibcRuntime) -> Result<(), AnyError> {
     )?;
     show_tube(rt, &tube)?;
     show_refusals(rt, &mut tube)?;
-    show_contradiction(rt, &mut tube)
+    show_contradiction(rt, &mut tube)?;
+    let mut work = [ANYWHERE; CELLS];
+    proposals::show(rt, &mut tube, &mut work)
 }
 
 fn show_tube(rt: &LibcRuntime, tube: &[Row]) -> Result<(), AnyError> {
