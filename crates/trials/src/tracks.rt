@@ -123,11 +123,7 @@ fn using<C: Contractor>(allowance: u64, contractor: &mut C, work: &mut [Row]) ->
     match make(&[ROW; 3], allowance) {
         Ok(rest) => match rest.propose(&[ROW; 3], &mut [ROW; 3]) {
             Ok(proposal) => match proposal.apply(contractor, work) {
-                Used::Kept(proposal, _) => {
-                    let charged = proposal.charged();
-                    let _ = proposal.withdraw();
-                    Told::Kept(charged)
-                }
+                Used::Kept(proposal, _) => Told::Kept(proposal.withdraw().charged()),
                 Used::Emptied(emptied) => {
                     let (_, rest) = emptied.close();
                     Told::Emptied(rest.charged())

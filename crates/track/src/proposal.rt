@@ -1,7 +1,8 @@
-// The calls of a track, each one step of its history.
+// An open proposal: contractors are applied to it, and it is committed or withdrawn.
 ghost use mathlib.Core.Path.{_≡_};
-ghost use Rattle.track.specs.Refusals.{copy-refusal, use-refusal};
-ghost use Rattle.track.specs.Standings.{Made, Proposing, Using, Committing, Withdrawing, Closing};
+ghost use Prim.Native.Nat.{_-_};
+ghost use Rattle.track.specs.Refusals.{use-refusal};
+ghost use Rattle.track.specs.Standings.{Using, Committing, Withdrawing};
 use crate::answer::Refused;
 use crate::answer::Used;
 use crate::refusal::TrackRefusal;
@@ -10,55 +11,8 @@ use crate::standing::Emptied;
 use crate::standing::Proposal;
 use crate::standing::Rest;
 use contractor::Contractor;
-use contractor::Fault;
 use contractor::Verdict;
 use tube::Row;
-use tube::is_tube;
-
-// The greatest allowance of calls.
-pub const MAX_ALLOWANCE: u64 = 1_000_000_000_000;
-
-// A track at rest over a first tube. What every history of it keeps is part of the contract.
-pub fn make(committed: &[Row], allowance: u64) -> Result<Rest, TrackRefusal>
-    ensures { λ r. ⌜ Made (now (committed .entry)) allowance r ⌝ }
-{
-    if !is_tube(committed) {
-        return Err(TrackRefusal::NotATube);
-    }
-    if allowance < 1 || allowance > MAX_ALLOWANCE {
-        return Err(TrackRefusal::BadAllowance);
-    }
-    Ok(Rest {
-        cells: committed.len(),
-        allowance,
-        charged: 0,
-    })
-}
-
-impl Rest {
-    // Opens a proposal: the work table becomes a copy of the committed one.
-    pub fn propose(self, committed: &[Row], work: &mut [Row]) -> Result<Proposal, Refused<Rest>>
-        ensures { λ r. ⌜ Proposing self (now (committed .entry)) (now (work .entry)) (now (work .exit)) r ⌝ }
-    {
-        if committed.len() != self.cells || work.len() != self.cells {
-            return Err(Refused {
-                standing: self,
-                refusal: TrackRefusal::WrongLength,
-            });
-        }
-        work.copy_from_slice(committed);
-        let Rest {
-            cells,
-            allowance,
-            charged,
-        } = self;
-        Ok(Proposal {
-            cells,
-            allowance,
-            charged,
-        })
-    }
-}
 
 impl Proposal {
     // Uses a contractor on the work table and charges the calls that it answers.
@@ -104,7 +58,7 @@ impl Proposal {
         if work.len() != self.cells {
             return Some(TrackRefusal::WrongLength);
         }
-        if self.charged + contractor.ceiling() > self.allowance {
+        if contractor.ceiling() > self.unspent() {
             return Some(TrackRefusal::OverAllowance);
         }
         None
@@ -142,32 +96,19 @@ impl Proposal {
             allowance,
             charged,
         } = self;
+        // What was used stays charged.
+        let spent = charged;
         Rest {
             cells,
             allowance,
-            charged,
+            charged: spent,
         }
     }
-}
 
-impl Emptied {
-    // Hands out why nothing was left, and rests. No table is written.
-    pub fn close(self) -> (Fault, Rest)
-        ensures { λ r. ⌜ Closing self (r .0) (r .1) ⌝ }
+    // The calls that are left of the allowance.
+    pub fn unspent(&self) -> u64
+        ensures { λ r. ⌜ r ≡ now (self .entry) .allowance - now (self .entry) .charged ⌝ }
     {
-        let Emptied {
-            cells,
-            allowance,
-            charged,
-            fault,
-        } = self;
-        (
-            fault,
-            Rest {
-                cells,
-                allowance,
-                charged,
-            },
-        )
+        self.allowance - self.charged
     }
 }

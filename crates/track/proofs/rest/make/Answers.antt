@@ -3,7 +3,7 @@ use mathlib.Core.Path.{refl, sym}
 use native.Mathlib.Omega.{arith}
 use Rattle.std.proofs.shelf.Ways.{tells}
 use Rattle.track.proofs.Keeping.{histories-keep}
-use Rattle.track.proofs.calls.make.Needs as need
+use Rattle.track.proofs.rest.make.Needs as need
 
 pub returns : need.returns
 returns c =
