@@ -22,6 +22,7 @@ passed-placed digit part layer n f small lower h =
     let power = pow-le-pow-right {n = 8} (omega arith) {i = suc part} {j = layer} lower in
     (omega (arith, pow-suc 8 part, h .0), h .1)
 
+-- what is placed under a part is placed under what stands higher
 pub placed-higher : (part layer n : ℕ) (x : Verdict) → part ≤ layer → Placed part n x → Placed layer n x
 placed-higher part layer n (Kept mark) lower h = tt
 placed-higher part layer n (Empty f) lower h =

@@ -1,4 +1,4 @@
--- What the layers share: the figures worked out from the parts', the fault that a layer passes up, and what two uses leave. Assumes nothing.
+-- What the layers share: figures worked out from the parts', the fault that a layer passes up, and the mark of two uses. Assumes nothing.
 use mathlib.Core.Bool.{Bool}
 use mathlib.Core.List.{List}
 use Prim.Native.Nat.{ℕ, _+_, _*_, min, max}

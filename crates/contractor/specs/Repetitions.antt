@@ -37,12 +37,13 @@ round-end (Kept mark) calls true = Some (kept mark calls)
 round-end (Kept mark) calls false = None
 round-end (Empty fault) calls same = Some (emptied (passed-up repeat-digit fault) calls)
 
--- what a round of a part does to the tube t after some calls
+-- what a round of a part does to the tube t after some calls: the tube left, the calls then, and how it ends
 pub record Round (v : Value) (t : List Row) (calls : ℕ) (left : List Row) (spent : ℕ) (end : Option Answer) : Type 0 where
   pub narrowed : left ≡ v .narrowed t .tube
   pub counted : spent ≡ calls + v .narrowed t .answer .calls
   pub ended : end ≡ round-end (v .narrowed t .answer .verdict) spent (same-rows t left)
 
+-- that end, with the tube as the round left it, or what the rounds left over make of it
 abbrev pub ended-or : Option Answer → List Row → Narrowed → Narrowed
 ended-or (Some answer) t rest = leaving answer t
 ended-or None t rest = rest
