@@ -1,0 +1,3 @@
+// What tubes and constraints do at their limits, as runs of the code.
+#[cfg(test)]
+mod tests;
