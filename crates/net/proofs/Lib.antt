@@ -1,0 +1,6 @@
+pub mod Accepted
+pub mod Singles
+pub mod Queues
+pub mod Uses
+pub mod Runs
+pub mod Keeping
