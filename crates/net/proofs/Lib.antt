@@ -4,3 +4,5 @@ pub mod Queues
 pub mod Uses
 pub mod Runs
 pub mod Keeping
+pub mod Chains
+pub mod Cursors

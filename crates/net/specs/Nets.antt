@@ -41,14 +41,23 @@ equal a b = leZ a b && leZ b a
 abbrev pub same-row : Row → Row → Bool
 same-row r s = equal (r .low) (s .low) && equal (r .high) (s .high)
 
+-- a cell is not as it was
+abbrev pub narrower : ℕ → List Row → List Row → Bool
+narrower c t u = not (same-row (cell t c) (cell u c))
+
 -- one of the cells is not as it was
 abbrev pub narrowed-one : List ℕ → List Row → List Row → Bool
 narrowed-one [] t u = false
-narrowed-one (c ∷ cs) t u = not (same-row (cell t c) (cell u c)) || narrowed-one cs t u
+narrowed-one (c ∷ cs) t u = narrower c t u || narrowed-one cs t u
 
+-- a number is one of a list
+abbrev pub among : ℕ → List ℕ → Bool
+among n [] = false
+among n (m ∷ ms) = eqb n m || among n ms
+
+-- the record at position i waits in the queue q
 abbrev pub waits : ℕ → List ℕ → Bool
-waits i [] = false
-waits i (j ∷ q) = eqb i j || waits i q
+waits i q = among i q
 
 -- Who joins the end of the queue q, in list order from position i on: those that mention a cell that is not as it was, and do not wait.
 abbrev pub joining : List (List ℕ) → ℕ → List ℕ → List Row → List Row → List ℕ
