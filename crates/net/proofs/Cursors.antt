@@ -128,9 +128,9 @@ module _ (css : List (List ℕ)) (cs q : List ℕ) (t u : List Row) (only : Only
   joining-next =
       joining-skip css q t u i (least-cursor css t u cs i) (least-from css t u cs i within)
       (λ c n. ⊎-elim
-        (λ m. let e = cond-true (narrower c t u) (after css c i) (length css) n in let below = least-least css t u cs c i m in omega arith)
-        (λ m. absurd (both-ways _ (only c m) n))
-        (cases-bool (among c cs)))
+      (λ m. let e = cond-true (narrower c t u) (after css c i) (length css) n in let below = least-least css t u cs c i m in omega arith)
+      (λ m. absurd (both-ways _ (only c m) n))
+      (cases-bool (among c cs)))
 
   pub joining-turn : (j : ℕ) → j ≡ least-cursor css t u cs i → j < length css → joining (drop i css) i q t u ≡ cond (waits j q) (joining (drop (j + 1) css) (j + 1) q t u) (j ∷ joining (drop (j + 1) css) (j + 1) q t u)
   joining-turn j e l =

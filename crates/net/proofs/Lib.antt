@@ -6,3 +6,5 @@ pub mod Runs
 pub mod Keeping
 pub mod Chains
 pub mod Cursors
+pub mod Apart
+pub mod Joined

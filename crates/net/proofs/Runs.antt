@@ -17,9 +17,10 @@ use Rattle.contractor.specs.Answers.{IsKept, IsEmpty, Placed}
 use Rattle.contractor.specs.Contractors.{Narrowed, Fair}
 use Rattle.contractor.specs.declared.answer.Fault.{Fault}
 use Rattle.contractor.specs.declared.answer.Mark.{Mark}
+use Rattle.contractor.specs.declared.answer.Mark.the-variants.{Settled}
 use Rattle.contractor.specs.declared.answer.Verdict.{Verdict}
 use Rattle.contractor.specs.declared.answer.Verdict.the-variants.{Kept, Empty}
-use Rattle.net.specs.Nets.{Part, mentions, all-obeyed, greatest-need, joining, positions, at-position, net-digit, empty-at, spun, Recorded}
+use Rattle.net.specs.Nets.{Part, mentions, all-obeyed, greatest-need, joining, positions, at-position, kept-as, net-digit, empty-at, spun, Recorded}
 use Rattle.net.proofs.Queues.{none-joining}
 use Rattle.net.proofs.Singles.{inside-single}
 use Rattle.net.proofs.Uses.{record-fair, Used, used}
@@ -31,6 +32,11 @@ module _ (ks : List Part) (left i : ℕ) (q : List ℕ) (t : List Row) (calls : 
 
   pub spun-empty : (f : Fault) → at-position ks i t .answer .verdict ≡ Empty f → spun ks (suc left) (i ∷ q) t calls ≡ empty-at net-digit f (calls + 1) (at-position ks i t .tube)
   spun-empty f e = cc
+
+-- where none waits the run is over, whatever is left of the allowance
+pub spun-settled : (ks : List Part) (left : ℕ) (t : List Row) (calls : ℕ) → spun ks left [] t calls ≡ kept-as Settled calls t
+spun-settled ks zero t calls = refl
+spun-settled ks (suc left) t calls = refl
 
 -- what a run from the tube t keeps, with `most` calls at most
 pub record Ran (ks : List Part) (t : List Row) (most : ℕ) (u : Narrowed) : Type 0 where

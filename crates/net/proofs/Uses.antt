@@ -7,6 +7,7 @@ use native.Mathlib.Omega.{arith}
 use Prim.Native.Nat.{ℕ, zero, suc, _<_, _≤_}
 use lib.ListN.{length, getD}
 use Rattle.std.specs.shelf.Lists.{All}
+use Rattle.std.proofs.shelf.Elements.{all-getD}
 use Rattle.std.proofs.shelf.Tests.{and-parts}
 use Rattle.tube.specs.Tubes.{Trajectory, is-tube, Lies, Inside}
 use Rattle.tube.specs.declared.row.Row.{Row}
@@ -54,3 +55,12 @@ pub at-position-is : (ks : List Part) (i : ℕ) (t : List Row) (d : Part) → i 
 at-position-is [] i t d h = absurd (not-suc-le-zero h)
 at-position-is (k ∷ ks) zero t d h = refl
 at-position-is (k ∷ ks) (suc i) t d h = at-position-is ks i t d (le-of-suc-le-suc h)
+
+need-at : (ks : List Part) (i : ℕ) (d : Part) → i < length ks → getD ks i d .value .need ≤ greatest-need ks
+need-at [] i d h = absurd (not-suc-le-zero h)
+need-at (k ∷ ks) zero d h = omega arith
+need-at (k ∷ ks) (suc i) d h = omega (arith, need-at ks i d (le-of-suc-le-suc h))
+
+-- a tube that is long enough for the net is so for each of its records
+pub accepted-at : (ks : List Part) (i : ℕ) (d : Part) (t : List Row) → i < length ks → All Recorded ks → is-tube t ≡ true → greatest-need ks ≤ length t → Accepted (getD ks i d .value) t
+accepted-at ks i d t l r tube enough = record-accepted (getD ks i d) t (all-getD Recorded ks i d l r) tube (omega (arith, need-at ks i d l))
