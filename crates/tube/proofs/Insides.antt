@@ -1,18 +1,14 @@
 -- Tubes inside tubes. Assumes nothing.
-use mathlib.Core.Path.{_≡_, refl, ap}
+use mathlib.Core.Path.{_≡_}
 use mathlib.Core.List.{List, [], _∷_}
-use native.Mathlib.Omega.{arith}
 use Prim.Native.Nat.{ℕ, zero, suc}
 use lib.IntN.{ℤ}
 use lib.ListN.{length, set}
-use lib.Signed.{_≤ℤ_, ≤ℤ-refl}
-use Rattle.std.proofs.shelf.Signed.{ints}
+use lib.Signed.{≤ℤ-refl}
 use Rattle.std.proofs.shelf.Elements.{length-each}
 use Rattle.tube.specs.Tubes.{In, Within, Inside, cell}
 use Rattle.tube.specs.declared.row.Row.{Row}
-
-pub ≤ℤ-trans : (a b c : ℤ) → a ≤ℤ b → b ≤ℤ c → a ≤ℤ c
-≤ℤ-trans a b c h k = omega (arith, ints)
+use Rattle.tube.proofs.Orders.{≤ℤ-trans}
 
 pub within-same : (a : Row) → Within a a
 within-same a = record { low = ≤ℤ-refl _; high = ≤ℤ-refl _ }

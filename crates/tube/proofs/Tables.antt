@@ -65,3 +65,6 @@ pub interval-within : (a b : Row) → Within a b → a .low ≤ℤ a .high → i
 interval-within a b w o i =
     let s = spanned (b .low) (b .high) i in
     spans-from (a .low) (a .high) (record { floor = omega (arith, ints); ordered = o; roof = omega (arith, ints) })
+
+pub ordered-at : (t : List Row) (c : ℕ) → is-tube t ≡ true → c < length t → cell t c .low ≤ℤ cell t c .high
+ordered-at t c h l = spanned (cell t c .low) (cell t c .high) (interval-at t c l (tube t h .each)) .ordered

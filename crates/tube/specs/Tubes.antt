@@ -41,6 +41,10 @@ pub record In (r : Row) (v : ℤ) : Type 0 where
   pub above : r .low ≤ℤ v
   pub below : v ≤ℤ r .high
 
+-- the same as a test
+abbrev pub contains : Row → ℤ → Bool
+contains r v = leZ (r .low) v && leZ v (r .high)
+
 -- a trajectory lies in a tube: as many numbers as cells, each in its cell
 abbrev pub Lies : List Row → Trajectory → Type 0
 Lies [] [] = Unit {0}
@@ -75,5 +79,9 @@ abbrev pub from-to : ℤ → ℤ → Option Row
 from-to low high = cond (leZ low high) (Some (row low high)) None
 
 -- what a row shares with the numbers from low to high
-abbrev pub cut : Row → ℤ → ℤ → Option Row
+unfoldable pub cut : Row → ℤ → ℤ → Option Row
 cut r low high = from-to (maxZ (r .low) low) (minZ (r .high) high)
+
+-- the least row that holds two
+abbrev pub hull : Row → Row → Row
+hull r s = row (minZ (r .low) (s .low)) (maxZ (r .high) (s .high))

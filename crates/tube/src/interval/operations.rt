@@ -1,7 +1,7 @@
 // Making an interval, reading its ends, and cutting it.
 ghost use mathlib.Core.Path.{_≡_};
 ghost use Rattle.tube.specs.Intervals.{row-of, row-if-any, row-if-made, made};
-ghost use Rattle.tube.specs.Tubes.{cut};
+ghost use Rattle.tube.specs.Tubes.{contains, cut, hull};
 use super::Interval;
 use crate::fault::MakingFault;
 use crate::row::Row;
@@ -47,6 +47,12 @@ impl Interval {
         }
     }
 
+    pub fn contains(self, v: i32) -> bool
+        ensures { λ r. ⌜ r ≡ contains (row-of self) v ⌝ }
+    {
+        self.low <= v && v <= self.high
+    }
+
     // What the interval shares with the numbers from low to high, where it shares any.
     pub fn cut(self, low: i32, high: i32) -> Option<Self>
         ensures { λ r. ⌜ row-if-any r ≡ cut (row-of self) low high ⌝ }
@@ -57,6 +63,16 @@ impl Interval {
             Some(Interval { low, high })
         } else {
             None
+        }
+    }
+
+    // The least interval that holds both.
+    pub fn hull(self, other: Self) -> Self
+        ensures { λ r. ⌜ row-of r ≡ hull (row-of self) (row-of other) ⌝ }
+    {
+        Interval {
+            low: self.low.min(other.low),
+            high: self.high.max(other.high),
         }
     }
 }

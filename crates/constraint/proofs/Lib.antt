@@ -1,0 +1,12 @@
+pub mod Bounds
+pub mod Fairs
+pub mod Hulls
+pub mod Keeping
+pub mod Machine
+pub mod Places
+pub mod Ranges
+pub mod Rings
+pub mod Singles
+pub mod Squares
+pub mod Steps
+pub mod Sums

@@ -1,0 +1,5 @@
+pub mod Constraints
+pub mod Hulls
+pub mod Kinds
+pub mod Makings
+pub mod Sums
