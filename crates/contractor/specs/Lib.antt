@@ -1,3 +1,10 @@
 pub mod Answers
 pub mod Refusals
 pub mod Contractors
+pub mod Layers
+pub mod Compositions
+pub mod Unions
+pub mod Repetitions
+pub mod Builds
+pub mod Counts
+pub mod RoundCounts

@@ -2,6 +2,8 @@
 ghost use mathlib.Core.Path.{_≡_};
 ghost use Rattle.contractor.specs.Contractors.{Value, Keeps, Accepted, Narrowed, Outcome, refusal, outcome};
 use crate::answer::Answer;
+use crate::refusal::MAX_CALLS;
+use crate::refusal::MAX_LAYERS;
 use crate::refusal::UseRefusal;
 use tube::Row;
 use tube::is_tube;
@@ -37,9 +39,9 @@ pub trait Contractor {
     {
         if !is_tube(table) || table.len() < self.need() {
             Some(UseRefusal::NotATube)
-        } else if self.height() > 16 {
+        } else if self.height() > MAX_LAYERS {
             Some(UseRefusal::TooHigh)
-        } else if self.ceiling() > 1_000_000_000 {
+        } else if self.ceiling() > MAX_CALLS {
             Some(UseRefusal::TooCostly)
         } else {
             None

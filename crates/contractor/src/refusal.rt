@@ -2,6 +2,12 @@
 ghost use mathlib.Core.Path.{_≡_};
 ghost use Rattle.contractor.specs.Refusals.{number-of};
 
+// The most layers that a contractor is used with.
+pub const MAX_LAYERS: u8 = 16;
+
+// The most calls that a contractor is used with.
+pub const MAX_CALLS: u64 = 1_000_000_000;
+
 #[derive(Clone, Copy, Debug, PartialEq)]
 pub enum UseRefusal {
     // The table is no tube, or has fewer cells than the contractor needs.
