@@ -12,7 +12,7 @@ use Rattle.tube.specs.declared.row.Row.{Row}
 use Rattle.contractor.specs.Answers.{IsEmpty}
 use Rattle.contractor.specs.Contractors.{Accepted, Fair}
 use Rattle.net.specs.Nets.{Part, all-obeyed, greatest-need, positions, net, Recorded, Nets-keep}
-use Rattle.net.proofs.Accepted.{Facts, accepted-facts}
+use Rattle.contractor.proofs.Accepting.{Accepts, accepted-facts}
 use Rattle.net.proofs.Runs.{ran, first-pass, from-start}
 
 need-bounded : (ks : List Part) → All Recorded ks → greatest-need ks ≤ most-cells + 1
@@ -24,7 +24,7 @@ enough-uses : (ks : List Part) (rounds : ℕ) → 1 ≤ rounds → length ks ≤
 enough-uses ks rounds some = le-mul-of-pos-right (length ks) some
 
 module _ (ks : List Part) (rounds : ℕ) (r : All Recorded ks) (some : 1 ≤ rounds) where
-  decides : (p : Trajectory) → Facts (net ks rounds) (single p) → all-obeyed ks p ≡ false → IsEmpty (net ks rounds .narrowed (single p) .answer .verdict)
+  decides : (p : Trajectory) → Accepts (net ks rounds) (single p) → all-obeyed ks p ≡ false → IsEmpty (net ks rounds .narrowed (single p) .answer .verdict)
   decides p facts disobeyed = first-pass ks ks 0 (length ks * rounds) 0 p (from-start ks) r (facts .tube) (facts .need) (enough-uses ks rounds some) disobeyed
 
   net-fair : (t : List Row) → Accepted (net ks rounds) t → Fair (net ks rounds) t (net ks rounds .narrowed t)
@@ -35,7 +35,7 @@ module _ (ks : List Part) (rounds : ℕ) (r : All Recorded ks) (some : 1 ≤ rou
         tube = run .tube;
         inside = run .inside;
         loses-none = run .loses-none;
-        decides = λ p one disobeyed. subst (λ s. IsEmpty (net ks rounds .narrowed s .answer .verdict)) (sym one) (decides p (subst (Facts (net ks rounds)) one facts) disobeyed);
+        decides = λ p one disobeyed. subst (λ s. IsEmpty (net ks rounds .narrowed s .answer .verdict)) (sym one) (decides p (subst (Accepts (net ks rounds)) one facts) disobeyed);
         calls = omega (arith, run .calls);
         placed = run .placed;
       }

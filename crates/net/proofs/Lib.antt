@@ -1,4 +1,3 @@
-pub mod Accepted
 pub mod Singles
 pub mod Queues
 pub mod Uses

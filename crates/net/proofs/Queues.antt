@@ -1,6 +1,6 @@
 -- Who joins the queue of a net, and where the positions in it lie. Assumes nothing.
 use mathlib.Core.Path.{_≡_, refl, _∙_}
-use mathlib.Core.Bool.{true, false, not, _&&_}
+use mathlib.Core.Bool.{Bool, true, false, not, _&&_}
 use mathlib.Core.List.{List, [], _∷_, _++_}
 use native.Mathlib.Omega.{arith}
 use Prim.Native.Nat.{ℕ, _+_, _<_, _≤_}
@@ -13,7 +13,8 @@ use Rattle.std.proofs.shelf.Signed.{ints}
 use Rattle.std.proofs.shelf.Tests.{and-left, cond-false, cond-both}
 use Rattle.tube.specs.Tubes.{cell}
 use Rattle.tube.specs.declared.row.Row.{Row}
-use Rattle.net.specs.Nets.{Part, mentions, equal, same-row, narrowed-one, waits, joining, positions}
+use Rattle.contractor.specs.Repetitions.{equal, same-row}
+use Rattle.net.specs.Nets.{Part, mentions, narrower, some-cell, waits, joining, positions}
 
 equal-same : (a : ℤ) → equal a a ≡ true
 equal-same a = grind (arith, ints)
@@ -21,32 +22,32 @@ equal-same a = grind (arith, ints)
 pub same-row-same : (r : Row) → same-row r r ≡ true
 same-row-same r = cc (equal-same (r .low), equal-same (r .high))
 
-pub none-narrowed : (cs : List ℕ) (t : List Row) → narrowed-one cs t t ≡ false
+none-narrowed : (cs : List ℕ) (t : List Row) → some-cell (narrower t t) cs ≡ false
 none-narrowed [] t = refl
 none-narrowed (c ∷ cs) t = cc (same-row-same (cell t c), none-narrowed cs t)
 
 -- where no cell became narrower, none joins
-pub none-joining : (css : List (List ℕ)) (i : ℕ) (q : List ℕ) (t : List Row) → joining css i q t t ≡ []
+pub none-joining : (css : List (List ℕ)) (i : ℕ) (q : List ℕ) (t : List Row) → joining css i q (narrower t t) ≡ []
 none-joining [] i q t = refl
 none-joining (cs ∷ css) i q t =
-    cond-false (narrowed-one cs t t && not (waits i q)) _ _ (and-left _ _ (none-narrowed cs t)) ∙ none-joining css (i + 1) q t
+    cond-false (some-cell (narrower t t) cs && not (waits i q)) _ _ (and-left _ _ (none-narrowed cs t)) ∙ none-joining css (i + 1) q t
 
 -- every position lies below n
 abbrev pub Below : ℕ → List ℕ → Type 0
 Below n = All (λ i. i < n)
 
-pub joining-below : (css : List (List ℕ)) (i : ℕ) (q : List ℕ) (t u : List Row) (n : ℕ) → i + length css ≤ n → Below n (joining css i q t u)
-joining-below [] i q t u n h = tt
-joining-below (cs ∷ css) i q t u n h =
-    let later = joining-below css (i + 1) q t u n (omega arith) in
-    cond-both (narrowed-one cs t u && not (waits i q)) (i ∷ joining css (i + 1) q t u) (joining css (i + 1) q t u) (Below n) (λ _. (omega arith, later)) (λ _. later)
+pub joining-below : (css : List (List ℕ)) (i : ℕ) (q : List ℕ) (test : ℕ → Bool) (n : ℕ) → i + length css ≤ n → Below n (joining css i q test)
+joining-below [] i q test n h = tt
+joining-below (cs ∷ css) i q test n h =
+    let later = joining-below css (i + 1) q test n (omega arith) in
+    cond-both (some-cell test cs && not (waits i q)) (i ∷ joining css (i + 1) q test) (joining css (i + 1) q test) (Below n) (λ _. (omega arith, later)) (λ _. later)
 
 pub positions-below : (ks : List Part) (i n : ℕ) → i + length ks ≤ n → Below n (positions ks i)
 positions-below [] i n h = tt
 positions-below (k ∷ ks) i n h = (omega arith, positions-below ks (i + 1) n (omega arith))
 
 -- the queue after a use has positions of records only
-pub queue-below : (ks : List Part) (q : List ℕ) (t u : List Row) → Below (length ks) q → Below (length ks) (q ++ joining (mentions ks) 0 q t u)
-queue-below ks q t u h =
+pub queue-below : (ks : List Part) (q : List ℕ) (test : ℕ → Bool) → Below (length ks) q → Below (length ks) (q ++ joining (mentions ks) 0 q test)
+queue-below ks q test h =
     let m = length-map ks (λ k. k .cells) in
-    all-append (λ i. i < length ks) q _ h (joining-below (mentions ks) 0 q t u (length ks) (omega arith))
+    all-append (λ i. i < length ks) q _ h (joining-below (mentions ks) 0 q test (length ks) (omega arith))

@@ -20,14 +20,14 @@ use Rattle.contractor.specs.declared.answer.Mark.{Mark}
 use Rattle.contractor.specs.declared.answer.Mark.the-variants.{Settled}
 use Rattle.contractor.specs.declared.answer.Verdict.{Verdict}
 use Rattle.contractor.specs.declared.answer.Verdict.the-variants.{Kept, Empty}
-use Rattle.net.specs.Nets.{Part, mentions, all-obeyed, greatest-need, joining, positions, at-position, kept-as, net-digit, empty-at, spun, Recorded}
+use Rattle.net.specs.Nets.{Part, mentions, all-obeyed, narrower, greatest-need, joining, positions, at-position, kept-as, net-digit, empty-at, spun, Recorded}
 use Rattle.net.proofs.Queues.{none-joining}
 use Rattle.net.proofs.Singles.{inside-single}
 use Rattle.net.proofs.Uses.{record-fair, Used, used}
 
 -- one step of the run, where the record keeps the tube and where it empties
 module _ (ks : List Part) (left i : ℕ) (q : List ℕ) (t : List Row) (calls : ℕ) where
-  pub spun-kept : (m : Mark) → at-position ks i t .answer .verdict ≡ Kept m → spun ks (suc left) (i ∷ q) t calls ≡ spun ks left (q ++ joining (mentions ks) 0 q t (at-position ks i t .tube)) (at-position ks i t .tube) (calls + 1)
+  pub spun-kept : (m : Mark) → at-position ks i t .answer .verdict ≡ Kept m → spun ks (suc left) (i ∷ q) t calls ≡ spun ks left (q ++ joining (mentions ks) 0 q (narrower t (at-position ks i t .tube))) (at-position ks i t .tube) (calls + 1)
   spun-kept m e = cc
 
   pub spun-empty : (f : Fault) → at-position ks i t .answer .verdict ≡ Empty f → spun ks (suc left) (i ∷ q) t calls ≡ empty-at net-digit f (calls + 1) (at-position ks i t .tube)
@@ -46,10 +46,10 @@ pub record Ran (ks : List Part) (t : List Row) (most : ℕ) (u : Narrowed) : Typ
   pub calls : u .answer .calls ≤ most
   pub placed : Placed 1 (length t) (u .answer .verdict)
 
-after-use : (ks : List Part) (left i : ℕ) (q : List ℕ) (t : List Row) (calls : ℕ) (v : Verdict) → at-position ks i t .answer .verdict ≡ v → Used ks t (at-position ks i t) → Ran ks (at-position ks i t .tube) (calls + 1 + left) (spun ks left (q ++ joining (mentions ks) 0 q t (at-position ks i t .tube)) (at-position ks i t .tube) (calls + 1)) → Ran ks t (calls + suc left) (spun ks (suc left) (i ∷ q) t calls)
+after-use : (ks : List Part) (left i : ℕ) (q : List ℕ) (t : List Row) (calls : ℕ) (v : Verdict) → at-position ks i t .answer .verdict ≡ v → Used ks t (at-position ks i t) → Ran ks (at-position ks i t .tube) (calls + 1 + left) (spun ks left (q ++ joining (mentions ks) 0 q (narrower t (at-position ks i t .tube))) (at-position ks i t .tube) (calls + 1)) → Ran ks t (calls + suc left) (spun ks (suc left) (i ∷ q) t calls)
 after-use ks left i q t calls (Kept m) e this later =
     let u = at-position ks i t in
-    let w = spun ks left (q ++ joining (mentions ks) 0 q t (u .tube)) (u .tube) (calls + 1) in
+    let w = spun ks left (q ++ joining (mentions ks) 0 q (narrower t (u .tube))) (u .tube) (calls + 1) in
     subst (Ran ks t (calls + suc left)) (sym (spun-kept ks left i q t calls m e)) (record {
       tube = later .tube;
       inside = inside-trans (w .tube) (u .tube) t (later .inside) (this .inside);
@@ -75,7 +75,7 @@ ran ks (suc left) (i ∷ q) t calls r tube enough =
     let u = at-position ks i t in
     let this = used ks i t r tube enough in
     let enough-still : greatest-need ks ≤ length (u .tube) = omega (arith, inside-length (u .tube) t (this .inside)) in
-    after-use ks left i q t calls (u .answer .verdict) refl this (ran ks left (q ++ joining (mentions ks) 0 q t (u .tube)) (u .tube) (calls + 1) r (this .tube) enough-still)
+    after-use ks left i q t calls (u .answer .verdict) refl this (ran ks left (q ++ joining (mentions ks) 0 q (narrower t (u .tube))) (u .tube) (calls + 1) r (this .tube) enough-still)
 
 -- `rest` is what the net has from position i on
 abbrev pub From : List Part → ℕ → List Part → Type 0
@@ -93,11 +93,11 @@ pub from-start : (ks : List Part) → From ks 0 ks
 from-start ks j t = let e : 0 + j ≡ j = omega arith in ap (λ n. at-position ks n t) e
 
 -- a use that left the tube as it was makes none join
-quiet : (ks : List Part) (left : ℕ) (q : List ℕ) (t u : List Row) (calls : ℕ) → u ≡ t → spun ks left (q ++ joining (mentions ks) 0 q t u) u calls ≡ spun ks left q t calls
+quiet : (ks : List Part) (left : ℕ) (q : List ℕ) (t u : List Row) (calls : ℕ) → u ≡ t → spun ks left (q ++ joining (mentions ks) 0 q (narrower t u)) u calls ≡ spun ks left q t calls
 quiet ks left q t u calls e =
     let none = none-joining (mentions ks) 0 q t in
-    let joined : q ++ joining (mentions ks) 0 q t t ≡ q = ap (λ s. q ++ s) none ∙ append-nil q in
-    ap (λ w. spun ks left (q ++ joining (mentions ks) 0 q t w) w calls) e ∙ ap (λ s. spun ks left s t calls) joined
+    let joined : q ++ joining (mentions ks) 0 q (narrower t t) ≡ q = ap (λ s. q ++ s) none ∙ append-nil q in
+    ap (λ w. spun ks left (q ++ joining (mentions ks) 0 q (narrower t w)) w calls) e ∙ ap (λ s. spun ks left s t calls) joined
 
 -- On a tube of one trajectory the records are used in order until one that the trajectory disobeys.
 by-verdict : (ks : List Part) (k : Part) (rest : List Part) (i left calls : ℕ) (p : Trajectory) (v : Verdict) → at-position ks i (single p) ≡ k .value .narrowed (single p) → k .value .narrowed (single p) .answer .verdict ≡ v → Fair (k .value) (single p) (k .value .narrowed (single p)) → all-obeyed (k ∷ rest) p ≡ false → (all-obeyed rest p ≡ false → IsEmpty (spun ks left (positions rest (i + 1)) (single p) (calls + 1) .answer .verdict)) → IsEmpty (spun ks (suc left) (i ∷ positions rest (i + 1)) (single p) calls .answer .verdict)

@@ -15,7 +15,7 @@ use Rattle.tube.proofs.Insides.{inside-same}
 use Rattle.contractor.specs.Answers.{IsKept, Placed}
 use Rattle.contractor.specs.Contractors.{Narrowed, Accepted, Fair}
 use Rattle.net.specs.Nets.{Part, all-obeyed, greatest-need, at-position, Recorded}
-use Rattle.net.proofs.Accepted.{accepted-from}
+use Rattle.contractor.proofs.Accepting.{accepted-from}
 
 pub record-accepted : (k : Part) (t : List Row) → Recorded k → is-tube t ≡ true → k .value .need ≤ length t → Accepted (k .value) t
 record-accepted k t r tube enough =

@@ -1,12 +1,9 @@
--- The records that mention a cell, one after another in ascending order. Assumes nothing.
-use mathlib.Core.Path.{_≡_}
-use mathlib.Core.Bool.{false, cond}
+-- The records that mention a cell, one after another in list order. Assumes nothing.
+use mathlib.Core.Bool.{Bool, true, false, cond}
 use mathlib.Core.List.{List, [], _∷_}
 use Prim.Native.Nat.{ℕ, zero, suc, min}
 use lib.ListN.{length}
-use Rattle.tube.specs.Tubes.{cell}
-use Rattle.tube.specs.declared.row.Row.{Row}
-use Rattle.net.specs.Nets.{Part, narrower, among}
+use Rattle.net.specs.Nets.{among}
 
 -- The first position, from a given one on, whose record mentions the cell, or the number of records where there is none.
 abbrev pub after : List (List ℕ) → (cell from : ℕ) → ℕ
@@ -14,19 +11,17 @@ after [] c from = 0
 after (cs ∷ css) c zero = cond (among c cs) 0 (suc (after css c 0))
 after (cs ∷ css) c (suc from) = suc (after css c from)
 
--- A cursor goes along the records that mention a cell, and stands at the end where the cell is as it was.
-abbrev pub cursor : List (List ℕ) → List Row → List Row → (cell from : ℕ) → ℕ
-cursor css t u c from = cond (narrower c t u) (after css c from) (length css)
+-- where the first of the chains of some cells stands
+abbrev pub least-after : List (List ℕ) → (cells : List ℕ) (from : ℕ) → ℕ
+least-after css [] from = length css
+least-after css (c ∷ cs) from = min (after css c from) (least-after css cs from)
 
--- where the first of the cursors of some cells stands
-abbrev pub least-cursor : List (List ℕ) → List Row → List Row → List ℕ → (from : ℕ) → ℕ
-least-cursor css t u [] from = length css
-least-cursor css t u (c ∷ cs) from = min (cursor css t u c from) (least-cursor css t u cs from)
+-- A cursor goes along the records that mention a cell, and stands at the end where the cell does not count.
+abbrev pub cursor : List (List ℕ) → Bool → (cell from : ℕ) → ℕ
+cursor css counts c from = cond counts (after css c from) (length css)
 
--- no cell but these became narrower
-abbrev pub Only : List ℕ → List Row → List Row → Type 0
-Only cs t u = (c : ℕ) → among c cs ≡ false → narrower c t u ≡ false
-
--- a record changes no cell but those that it mentions
-abbrev pub Confined : Part → Type 0
-Confined k = (t : List Row) (c : ℕ) → among c (k .cells) ≡ false → cell (k .value .narrowed t .tube) c ≡ cell t c
+-- those cells that count
+abbrev pub chosen : List Bool → List ℕ → List ℕ
+chosen [] cs = []
+chosen (b ∷ bs) [] = []
+chosen (b ∷ bs) (c ∷ cs) = cond b (c ∷ chosen bs cs) (chosen bs cs)

@@ -4,14 +4,15 @@ use mathlib.Core.Bool.{Bool, true, false, cond, not, _&&_, _||_}
 use mathlib.Core.List.{List, [], _∷_, _++_, map}
 use Prim.Native.Nat.{ℕ, zero, suc, _+_, _*_, _≤_, max}
 use lib.Dec.{eqb}
-use lib.IntN.{ℤ}
 use lib.ListN.{length}
-use lib.Signed.{leZ}
 use Rattle.std.specs.shelf.Lists.{All}
 use Rattle.tube.specs.Tubes.{Trajectory, cell}
 use Rattle.tube.specs.declared.row.Row.{Row}
 use Rattle.contractor.specs.Answers.{kept, emptied}
 use Rattle.contractor.specs.Contractors.{Narrowed, Value, Keeps}
+use Rattle.contractor.specs.Counts.{most-rounds}
+use Rattle.contractor.specs.Layers.{passed-up, leaving}
+use Rattle.contractor.specs.Repetitions.{same-row}
 use Rattle.contractor.specs.declared.answer.Fault.{Fault}
 use Rattle.contractor.specs.declared.answer.Mark.{Mark}
 use Rattle.contractor.specs.declared.answer.Mark.the-variants.{Settled, Stopped}
@@ -35,20 +36,14 @@ abbrev pub greatest-need : List Part → ℕ
 greatest-need [] = 0
 greatest-need (k ∷ ks) = max (k .value .need) (greatest-need ks)
 
-abbrev pub equal : ℤ → ℤ → Bool
-equal a b = leZ a b && leZ b a
-
-abbrev pub same-row : Row → Row → Bool
-same-row r s = equal (r .low) (s .low) && equal (r .high) (s .high)
-
 -- a cell is not as it was
-abbrev pub narrower : ℕ → List Row → List Row → Bool
-narrower c t u = not (same-row (cell t c) (cell u c))
+abbrev pub narrower : List Row → List Row → ℕ → Bool
+narrower t u c = not (same-row (cell t c) (cell u c))
 
--- one of the cells is not as it was
-abbrev pub narrowed-one : List ℕ → List Row → List Row → Bool
-narrowed-one [] t u = false
-narrowed-one (c ∷ cs) t u = narrower c t u || narrowed-one cs t u
+-- one of the cells passes a test
+abbrev pub some-cell : (ℕ → Bool) → List ℕ → Bool
+some-cell test [] = false
+some-cell test (c ∷ cs) = test c || some-cell test cs
 
 -- a number is one of a list
 abbrev pub among : ℕ → List ℕ → Bool
@@ -59,12 +54,12 @@ among n (m ∷ ms) = eqb n m || among n ms
 abbrev pub waits : ℕ → List ℕ → Bool
 waits i q = among i q
 
--- Who joins the end of the queue q, in list order from position i on: those that mention a cell that is not as it was, and do not wait.
-abbrev pub joining : List (List ℕ) → ℕ → List ℕ → List Row → List Row → List ℕ
-joining [] i q t u = []
-joining (cs ∷ css) i q t u =
-    let later = joining css (i + 1) q t u in
-    cond (narrowed-one cs t u && not (waits i q)) (i ∷ later) later
+-- Who joins the end of the queue q, in list order from position i on: those that mention a cell that passes the test, and do not wait.
+abbrev pub joining : List (List ℕ) → ℕ → List ℕ → (ℕ → Bool) → List ℕ
+joining [] i q test = []
+joining (cs ∷ css) i q test =
+    let later = joining css (i + 1) q test in
+    cond (some-cell test cs && not (waits i q)) (i ∷ later) later
 
 -- the positions of the records, in order, from position i on
 abbrev pub positions : List Part → ℕ → List ℕ
@@ -77,18 +72,14 @@ rest-mark [] = Settled
 rest-mark (i ∷ q) = Stopped
 
 abbrev pub kept-as : Mark → ℕ → List Row → Narrowed
-kept-as mark calls t = record { answer = kept mark calls; tube = t }
+kept-as mark calls t = leaving (kept mark calls) t
 
 -- the digit that a net appends to the path of a fault
 abbrev pub net-digit : ℕ
 net-digit = 5
 
--- one digit more, the outermost last
-abbrev pub passed-up : ℕ → Fault → Fault
-passed-up d f = record { cause = f .cause; number = f .number; cell = f .cell; path = f .path * 8 + d }
-
 abbrev pub empty-at : ℕ → Fault → ℕ → List Row → Narrowed
-empty-at d f calls t = record { answer = emptied (passed-up d f) calls; tube = t }
+empty-at d f calls t = leaving (emptied (passed-up d f) calls) t
 
 -- the use of the record at a position; there is always one, and the last line is never used
 abbrev pub at-position : List Part → ℕ → List Row → Narrowed
@@ -103,7 +94,7 @@ spun ks (suc left) [] t calls = kept-as Settled calls t
 spun ks (suc left) (i ∷ q) t calls =
     let u = at-position ks i t in
     elim (u .answer .verdict) [
-      | Kept m ↦ spun ks left (q ++ joining (mentions ks) 0 q t (u .tube)) (u .tube) (calls + 1)
+      | Kept m ↦ spun ks left (q ++ joining (mentions ks) 0 q (narrower t (u .tube))) (u .tube) (calls + 1)
       | Empty f ↦ empty-at net-digit f (calls + 1) (u .tube)
     ]
 
@@ -117,12 +108,9 @@ net ks rounds = record {
   narrowed = λ t. spun ks (length ks * rounds) (positions ks 0) t 0;
 }
 
--- the most records that a net holds, and the most rounds
+-- the most records that a net holds
 abbrev pub most-records : ℕ
 most-records = 512
-
-abbrev pub most-rounds : ℕ
-most-rounds = 1000
 
 -- What is asked of a record: it keeps the meaning of a contractor, has no layers, and a use of it is one call.
 pub record Recorded (k : Part) : Type 0 where
