@@ -7,14 +7,10 @@ use native.Mathlib.Nat.{not-suc-le-zero}
 use native.Mathlib.Omega.{arith}
 use Prim.Native.Nat.{ℕ, zero, suc, _+_, _<_, _≤_}
 use lib.Dec.{eqb}
-use lib.ListN.{length, getD}
+use lib.ListN.{length}
 use Rattle.std.proofs.shelf.Tests.{cases-bool, cond-both, eqb-true, eqb-false, ne-eqb, or-parts, or-from, or-left, or-right}
-use Rattle.net.specs.Nets.{Part, waits, positions}
-use Rattle.net.proofs.Queues.{Below}
-
-abbrev pub Apart : List ℕ → Type 0
-Apart [] = Unit {0}
-Apart (i ∷ q) = (waits i q ≡ false) × Apart q
+use Rattle.net.specs.Nets.{waits, positions}
+use Rattle.net.specs.Queues.{Apart, Below}
 
 -- one more at the end
 pub waits-push : (q : List ℕ) (i j : ℕ) → waits i (q ++ j ∷ []) ≡ (waits i q || eqb i j)
@@ -72,27 +68,27 @@ pub room : (n : ℕ) (q : List ℕ) (j : ℕ) → Apart q → Below n q → wait
 room n q j a b w l = apart-short n (j ∷ q) (w, a) (l, b)
 
 -- the positions with which a run begins
-pub positions-length : (ks : List Part) (i : ℕ) → length (positions ks i) ≡ length ks
-positions-length [] i = refl
-positions-length (k ∷ ks) i = ap suc (positions-length ks (i + 1))
+pub positions-length : (i n : ℕ) → length (positions i n) ≡ n
+positions-length i zero = refl
+positions-length i (suc n) = ap suc (positions-length (i + 1) n)
 
-pub positions-at : (ks : List Part) (i j : ℕ) → j < length ks → getD (positions ks i) j 0 ≡ i + j
-positions-at [] i j l = absurd (not-suc-le-zero l)
-positions-at (k ∷ ks) i zero l = omega arith
-positions-at (k ∷ ks) i (suc j) l = omega (arith, positions-at ks (i + 1) j (omega arith))
-
-pub positions-wait : (ks : List Part) (i j : ℕ) → i ≤ j → j < i + length ks → waits j (positions ks i) ≡ true
-positions-wait [] i j h l = absurd (omega arith)
-positions-wait (k ∷ ks) i j h l =
+pub positions-wait : (i n j : ℕ) → i ≤ j → j < i + n → waits j (positions i n) ≡ true
+positions-wait i zero j h l = absurd (omega arith)
+positions-wait i (suc n) j h l =
     ⊎-elim
     (λ e. or-left (eqb j i) _ e)
-    (λ e. let other = eqb-false j i e in or-right (eqb j i) _ (positions-wait ks (i + 1) j (omega arith) (omega arith)))
+    (λ e. let other = eqb-false j i e in or-right (eqb j i) _ (positions-wait (i + 1) n j (omega arith) (omega arith)))
     (cases-bool (eqb j i))
 
-positions-past : (ks : List Part) (i j : ℕ) → j < i → waits j (positions ks i) ≡ false
-positions-past [] i j l = refl
-positions-past (k ∷ ks) i j l = or-from (eqb j i) _ (ne-eqb j i (λ e. omega arith)) (positions-past ks (i + 1) j (omega arith))
+-- those before the first do not wait, and those after the last
+positions-before : (i n j : ℕ) → j < i → waits j (positions i n) ≡ false
+positions-before i zero j l = refl
+positions-before i (suc n) j l = or-from (eqb j i) _ (ne-eqb j i (λ e. omega arith)) (positions-before (i + 1) n j (omega arith))
 
-pub positions-apart : (ks : List Part) (i : ℕ) → Apart (positions ks i)
-positions-apart [] i = tt
-positions-apart (k ∷ ks) i = (positions-past ks (i + 1) i (omega arith), positions-apart ks (i + 1))
+pub positions-past : (i n j : ℕ) → i + n ≤ j → waits j (positions i n) ≡ false
+positions-past i zero j l = refl
+positions-past i (suc n) j l = or-from (eqb j i) _ (ne-eqb j i (λ e. omega arith)) (positions-past (i + 1) n j (omega arith))
+
+pub positions-apart : (i n : ℕ) → Apart (positions i n)
+positions-apart i zero = tt
+positions-apart i (suc n) = (positions-before (i + 1) n i (omega arith), positions-apart (i + 1) n)

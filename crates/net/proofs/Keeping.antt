@@ -30,7 +30,7 @@ module _ (ks : List Part) (rounds : ℕ) (r : All Recorded ks) (some : 1 ≤ rou
   net-fair : (t : List Row) → Accepted (net ks rounds) t → Fair (net ks rounds) t (net ks rounds .narrowed t)
   net-fair t a =
       let facts = accepted-facts (net ks rounds) t a in
-      let run = ran ks (length ks * rounds) (positions ks 0) t 0 r (facts .tube) (facts .need) in
+      let run = ran ks (length ks * rounds) (positions 0 (length ks)) t 0 r (facts .tube) (facts .need) in
       record {
         tube = run .tube;
         inside = run .inside;

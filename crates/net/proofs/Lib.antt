@@ -7,3 +7,4 @@ pub mod Chains
 pub mod Cursors
 pub mod Apart
 pub mod Joined
+pub mod Rings

@@ -3,10 +3,9 @@ use mathlib.Core.Path.{_≡_, refl, _∙_}
 use mathlib.Core.Bool.{Bool, true, false, not, _&&_}
 use mathlib.Core.List.{List, [], _∷_, _++_}
 use native.Mathlib.Omega.{arith}
-use Prim.Native.Nat.{ℕ, _+_, _<_, _≤_}
+use Prim.Native.Nat.{ℕ, zero, suc, _+_, _<_, _≤_}
 use lib.IntN.{ℤ}
 use lib.ListN.{length}
-use Rattle.std.specs.shelf.Lists.{All}
 use Rattle.std.proofs.shelf.Elements.{all-append}
 use Rattle.std.proofs.shelf.Lists.{length-map}
 use Rattle.std.proofs.shelf.Signed.{ints}
@@ -15,6 +14,7 @@ use Rattle.tube.specs.Tubes.{cell}
 use Rattle.tube.specs.declared.row.Row.{Row}
 use Rattle.contractor.specs.Repetitions.{equal, same-row}
 use Rattle.net.specs.Nets.{Part, mentions, narrower, some-cell, waits, joining, positions}
+use Rattle.net.specs.Queues.{Below}
 
 equal-same : (a : ℤ) → equal a a ≡ true
 equal-same a = grind (arith, ints)
@@ -32,19 +32,15 @@ none-joining [] i q t = refl
 none-joining (cs ∷ css) i q t =
     cond-false (some-cell (narrower t t) cs && not (waits i q)) _ _ (and-left _ _ (none-narrowed cs t)) ∙ none-joining css (i + 1) q t
 
--- every position lies below n
-abbrev pub Below : ℕ → List ℕ → Type 0
-Below n = All (λ i. i < n)
-
 pub joining-below : (css : List (List ℕ)) (i : ℕ) (q : List ℕ) (test : ℕ → Bool) (n : ℕ) → i + length css ≤ n → Below n (joining css i q test)
 joining-below [] i q test n h = tt
 joining-below (cs ∷ css) i q test n h =
     let later = joining-below css (i + 1) q test n (omega arith) in
     cond-both (some-cell test cs && not (waits i q)) (i ∷ joining css (i + 1) q test) (joining css (i + 1) q test) (Below n) (λ _. (omega arith, later)) (λ _. later)
 
-pub positions-below : (ks : List Part) (i n : ℕ) → i + length ks ≤ n → Below n (positions ks i)
-positions-below [] i n h = tt
-positions-below (k ∷ ks) i n h = (omega arith, positions-below ks (i + 1) n (omega arith))
+pub positions-below : (i m n : ℕ) → i + m ≤ n → Below n (positions i m)
+positions-below i zero n h = tt
+positions-below i (suc m) n h = (omega arith, positions-below (i + 1) m n (omega arith))
 
 -- the queue after a use has positions of records only
 pub queue-below : (ks : List Part) (q : List ℕ) (test : ℕ → Bool) → Below (length ks) q → Below (length ks) (q ++ joining (mentions ks) 0 q test)

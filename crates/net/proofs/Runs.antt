@@ -100,10 +100,10 @@ quiet ks left q t u calls e =
     ap (λ w. spun ks left (q ++ joining (mentions ks) 0 q (narrower t w)) w calls) e ∙ ap (λ s. spun ks left s t calls) joined
 
 -- On a tube of one trajectory the records are used in order until one that the trajectory disobeys.
-by-verdict : (ks : List Part) (k : Part) (rest : List Part) (i left calls : ℕ) (p : Trajectory) (v : Verdict) → at-position ks i (single p) ≡ k .value .narrowed (single p) → k .value .narrowed (single p) .answer .verdict ≡ v → Fair (k .value) (single p) (k .value .narrowed (single p)) → all-obeyed (k ∷ rest) p ≡ false → (all-obeyed rest p ≡ false → IsEmpty (spun ks left (positions rest (i + 1)) (single p) (calls + 1) .answer .verdict)) → IsEmpty (spun ks (suc left) (i ∷ positions rest (i + 1)) (single p) calls .answer .verdict)
+by-verdict : (ks : List Part) (k : Part) (rest : List Part) (i left calls : ℕ) (p : Trajectory) (v : Verdict) → at-position ks i (single p) ≡ k .value .narrowed (single p) → k .value .narrowed (single p) .answer .verdict ≡ v → Fair (k .value) (single p) (k .value .narrowed (single p)) → all-obeyed (k ∷ rest) p ≡ false → (all-obeyed rest p ≡ false → IsEmpty (spun ks left (positions (i + 1) (length rest)) (single p) (calls + 1) .answer .verdict)) → IsEmpty (spun ks (suc left) (i ∷ positions (i + 1) (length rest)) (single p) calls .answer .verdict)
 by-verdict ks k rest i left calls p (Kept m) here e fair o later =
     let t = single p in
-    let q = positions rest (i + 1) in
+    let q = positions (i + 1) (length rest) in
     let same : at-position ks i t .tube ≡ t = ap (λ u. u .tube) here ∙ inside-single (k .value .narrowed t .tube) p (tube (k .value .narrowed t .tube) (fair .tube) .each) (fair .inside) in
     let run = spun-kept ks left i q t calls m (ap (λ u. u .answer .verdict) here ∙ e) ∙ quiet ks left q t (at-position ks i t .tube) (calls + 1) same in
     ⊎-elim
@@ -111,9 +111,9 @@ by-verdict ks k rest i left calls p (Kept m) here e fair o later =
     (λ disobeyed. absurd (subst IsEmpty e (fair .decides p refl disobeyed)))
     (cases-bool (k .value .relation p))
 by-verdict ks k rest i left calls p (Empty f) here e fair o later =
-    subst (λ u. IsEmpty (u .answer .verdict)) (sym (spun-empty ks left i (positions rest (i + 1)) (single p) calls f (ap (λ u. u .answer .verdict) here ∙ e))) tt
+    subst (λ u. IsEmpty (u .answer .verdict)) (sym (spun-empty ks left i (positions (i + 1) (length rest)) (single p) calls f (ap (λ u. u .answer .verdict) here ∙ e))) tt
 
-pub first-pass : (ks rest : List Part) (i left calls : ℕ) (p : Trajectory) → From ks i rest → All Recorded rest → is-tube (single p) ≡ true → greatest-need rest ≤ length (single p) → length rest ≤ left → all-obeyed rest p ≡ false → IsEmpty (spun ks left (positions rest i) (single p) calls .answer .verdict)
+pub first-pass : (ks rest : List Part) (i left calls : ℕ) (p : Trajectory) → From ks i rest → All Recorded rest → is-tube (single p) ≡ true → greatest-need rest ≤ length (single p) → length rest ≤ left → all-obeyed rest p ≡ false → IsEmpty (spun ks left (positions i (length rest)) (single p) calls .answer .verdict)
 first-pass ks [] i left calls p from r tube enough fuel o = absurd (true≢false o)
 first-pass ks (k ∷ rest) i zero calls p from r tube enough fuel o = absurd (not-suc-le-zero fuel)
 first-pass ks (k ∷ rest) i (suc left) calls p from r tube enough fuel o =

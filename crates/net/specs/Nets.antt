@@ -61,10 +61,10 @@ joining (cs ∷ css) i q test =
     let later = joining css (i + 1) q test in
     cond (some-cell test cs && not (waits i q)) (i ∷ later) later
 
--- the positions of the records, in order, from position i on
-abbrev pub positions : List Part → ℕ → List ℕ
-positions [] i = []
-positions (k ∷ ks) i = i ∷ positions ks (i + 1)
+-- so many positions in order, from one on
+abbrev pub positions : (from count : ℕ) → List ℕ
+positions from zero = []
+positions from (suc count) = from ∷ positions (from + 1) count
 
 -- settled where none waits
 abbrev pub rest-mark : List ℕ → Mark
@@ -105,7 +105,7 @@ net ks rounds = record {
   need = greatest-need ks;
   height = 1;
   ceiling = length ks * rounds;
-  narrowed = λ t. spun ks (length ks * rounds) (positions ks 0) t 0;
+  narrowed = λ t. spun ks (length ks * rounds) (positions 0 (length ks)) t 0;
 }
 
 -- the most records that a net holds

@@ -1,6 +1,11 @@
 // A net of records that are used again as long as the cells that they mention become narrower.
 ghost use Rattle.net.specs.Nets.{Nets-keep};
 
+mod waiting;
+
+// The most records that a net holds.
+pub const MAX_RECORDS: usize = 512;
+
 // Whatever records a net has, if each keeps the meaning of a contractor, so does the net.
 pub fn nets_keep()
     ensures { λ _. ⌜ Nets-keep ⌝ }
