@@ -12,7 +12,7 @@ use Rattle.std.proofs.shelf.Lists.{getD-drop, drop-drop, at-drop-more, at-drop-
 use Rattle.std.proofs.shelf.Tests.{cases-bool, cases-lt, cases-eq, both-ways, false≢true, cond-true, cond-false, cond-both, eq-eqb, eqb-true, ne-eqb, or-parts, or-from, or-left, or-right, or-cases, and-left}
 use Rattle.net.specs.Nets.{some-cell, among, waits, joining}
 use Rattle.net.specs.Chains.{after, least-after, cursor, chosen}
-use Rattle.net.proofs.Chains.{after-length, after-from, after-skips, after-finds, after-same}
+use Rattle.net.proofs.Afters.{after-length, after-from, after-skips, after-finds, after-same}
 
 -- a record none of whose cells passes a test, and one that has such a cell
 module _ (test : ℕ → Bool) where

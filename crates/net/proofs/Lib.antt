@@ -3,8 +3,9 @@ pub mod Queues
 pub mod Uses
 pub mod Runs
 pub mod Keeping
-pub mod Chains
+pub mod Afters
 pub mod Cursors
 pub mod Apart
 pub mod Joined
 pub mod Rings
+pub mod Linking

@@ -1,3 +1,4 @@
 pub mod Nets
 pub mod Chains
 pub mod Queues
+pub mod Links

@@ -1,6 +1,7 @@
 // A net of records that are used again as long as the cells that they mention become narrower.
 ghost use Rattle.net.specs.Nets.{Nets-keep};
 
+mod chains;
 mod waiting;
 
 // The most records that a net holds.

@@ -1,4 +1,4 @@
--- The chains of the records that mention a cell, and the loop that lets them join the queue. Assumes nothing.
+-- The first record from a position on that mentions a cell. Assumes nothing.
 use mathlib.Core.Path.{_≡_, refl, sym, ap, _∙_}
 use mathlib.Core.Bool.{Bool, true, false, not, cond}
 use mathlib.Core.Logic.{⊎-elim}
