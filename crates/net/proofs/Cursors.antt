@@ -70,6 +70,13 @@ module _ (css : List (List ℕ)) (counts : Bool) (c : ℕ) where
   cursor-counts : (i : ℕ) → cursor css counts c i < length css → counts ≡ true
   cursor-counts i l = ⊎-elim (λ n. n) (λ n. let e = cond-false counts (after css c i) (length css) n in absurd (omega arith)) (cases-bool counts)
 
+  -- it is the same from each position up to it
+  pub cursor-same : (i j : ℕ) → i ≤ j → j ≤ cursor css counts c i → cursor css counts c j ≡ cursor css counts c i
+  cursor-same i j h =
+      cond-both counts (after css c i) (length css) (λ n. j ≤ n → cursor css counts c j ≡ n)
+      (λ e l. cond-true counts _ _ e ∙ after-same css c i j h l)
+      (λ e l. cond-false counts _ _ e)
+
   pub cursor-finds : (i : ℕ) → cursor css counts c i < length css → among c (getD css (cursor css counts c i) []) ≡ true
   cursor-finds i l =
       let e = cond-true counts (after css c i) (length css) (cursor-counts i l) in
@@ -79,17 +86,11 @@ module _ (css : List (List ℕ)) (counts : Bool) (c : ℕ) where
   cursor-moves : (i j : ℕ) → cursor css counts c i ≡ j → j < length css → cursor css counts c (j + 1) ≡ after css c (j + 1)
   cursor-moves i j e l = cond-true counts _ _ (cursor-counts i (omega arith))
 
-  cursor-stays : (i j : ℕ) → i ≤ j → j < cursor css counts c i → cursor css counts c (j + 1) ≡ cursor css counts c i
-  cursor-stays i j h =
-      cond-both counts (after css c i) (length css) (λ n. j < n → cursor css counts c (j + 1) ≡ n)
-      (λ e l. cond-true counts _ _ e ∙ after-same css c i (j + 1) (omega arith) (omega arith))
-      (λ e l. cond-false counts _ _ e)
-
   pub cursor-next : (i j : ℕ) → i ≤ j → j ≤ cursor css counts c i → j < length css → cursor css counts c (j + 1) ≡ cond (eqb (cursor css counts c i) j) (after css c (j + 1)) (cursor css counts c i)
   cursor-next i j h l within =
       ⊎-elim
       (λ e. cursor-moves i j e within ∙ sym (cond-true _ _ _ (eq-eqb _ _ e)))
-      (λ ne. cursor-stays i j h (omega arith) ∙ sym (cond-false _ _ _ (ne-eqb _ _ ne)))
+      (λ ne. cursor-same i (j + 1) (omega arith) (omega arith) ∙ sym (cond-false _ _ _ (ne-eqb _ _ ne)))
       (cases-eq (cursor css counts c i) j)
 
 -- where the first of the chains of some cells stands
@@ -132,7 +133,7 @@ swap b false x y e = cc
 
 -- One turn of the loop: the least cursor is the next position that joins, unless it waits.
 module _ (css : List (List ℕ)) (cs q : List ℕ) (i : ℕ) (within : i ≤ length css) where
-  joining-next : joining (drop i css) i q (λ c. among c cs) ≡ joining (drop (least-after css cs i) css) (least-after css cs i) q (λ c. among c cs)
+  pub joining-next : joining (drop i css) i q (λ c. among c cs) ≡ joining (drop (least-after css cs i) css) (least-after css cs i) q (λ c. among c cs)
   joining-next = joining-skip css q (λ c. among c cs) i (least-after css cs i) (least-from css cs i within) (λ c m. least-least css cs c i m)
 
   pub joining-turn : (j : ℕ) → j ≡ least-after css cs i → j < length css → joining (drop i css) i q (λ c. among c cs) ≡ cond (waits j q) (joining (drop (j + 1) css) (j + 1) q (λ c. among c cs)) (j ∷ joining (drop (j + 1) css) (j + 1) q (λ c. among c cs))

@@ -9,3 +9,4 @@ pub mod Apart
 pub mod Joined
 pub mod Rings
 pub mod Linking
+pub mod Waking

@@ -7,9 +7,9 @@ use native.Mathlib.Nat.{not-suc-le-zero, le-of-suc-le-suc}
 use native.Mathlib.Omega.{arith}
 use Prim.Native.Nat.{ℕ, zero, suc, _+_, _<_, _≤_}
 use lib.Dec.{eqb}
-use lib.ListN.{length, getD, set, replicate}
-use Rattle.std.proofs.shelf.Lists.{getD-set-same, getD-set-other, getD-replicate, length-set, length-replicate, length-map}
-use Rattle.std.proofs.shelf.Tests.{cases-eq, cond-true, cond-false, eq-eqb, ne-eqb}
+use lib.ListN.{length, getD, set, replicate, take}
+use Rattle.std.proofs.shelf.Lists.{getD-set-same, getD-set-other, getD-replicate, length-set, length-replicate, length-map, length-take-le, getD-map, getD-take, ext-getD}
+use Rattle.std.proofs.shelf.Tests.{cases-eq, cond-true, cond-false, eq-eqb, eqb-true, ne-eqb, or-cases, false≢true}
 use Rattle.tube.specs.Tubes.{most-cells}
 use Rattle.constraint.specs.Mentions.{cell-slots}
 use Rattle.constraint.specs.declared.constraint.Constraint.{Constraint}
@@ -17,7 +17,7 @@ use Rattle.constraint.specs.declared.constraint.Constraint.the-variants.{Bound 
 use Rattle.constraint.proofs.Confined.{cells-placed}
 use Rattle.net.specs.Nets.{among, most-records}
 use Rattle.net.specs.Chains.{after}
-use Rattle.net.specs.Links.{no-mention, Heads, linked, Links, Chained}
+use Rattle.net.specs.Links.{slots, slots-of, slot, Three, no-mention, Heads, linked, Links, Chained}
 use Rattle.net.specs.declared.chains.Mention.{Mention}
 use Rattle.net.specs.declared.chains.Chains.{Chains}
 
@@ -86,16 +86,7 @@ linking-none css n m e = record {
   links = λ j from l. absurd (omega arith);
 }
 
--- three cells, one for each slot
-abbrev pub slot : List ℕ → ℕ → ℕ
-slot cs s = getD cs s 0
-
-pub record Three (cs : List ℕ) : Type 0 where
-  pub are : cs ≡ slot cs 0 ∷ slot cs 1 ∷ slot cs 2 ∷ []
-  pub first : slot cs 0 < most-cells
-  pub second : slot cs 1 < most-cells
-  pub third : slot cs 2 < most-cells
-
+-- a constraint has three slots
 pub three-slots : (k : Constraint) → Three (cell-slots k)
 three-slots (of-bound k) = let p = cells-placed (of-bound k) in record { are = refl; first = omega arith; second = omega arith; third = omega arith }
 three-slots (of-step k) = let p = cells-placed (of-step k) in record { are = refl; first = omega arith; second = omega arith; third = omega arith }
@@ -135,5 +126,77 @@ module _ (css : List (List ℕ)) (i : ℕ) (heads : List ℕ) (mentions : List M
             (cases-eq j i);
       }
 
-pub linking-all : (css : List (List ℕ)) (n : ℕ) (heads : List ℕ) (mentions : List Mention) → n ≡ length css → n ≤ most-records → Linking css 0 heads mentions → Chained css (record { count = n; heads = heads; mentions = mentions })
-linking-all css n heads mentions e few all = record { count = e; few = omega arith; heads = all .first; links = all .links }
+third-of : (cs : List ℕ) (c : ℕ) → length cs ≡ 3 → among c cs ≡ true → (slot cs 0 ≡ c → ⊥) → (slot cs 1 ≡ c → ⊥) → slot cs 2 ≡ c
+third-of [] c l m p q = absurd (omega arith)
+third-of (x ∷ []) c l m p q = absurd (omega arith)
+third-of (x ∷ y ∷ []) c l m p q = absurd (omega arith)
+third-of (x ∷ y ∷ z ∷ []) c l m p q =
+    ⊎-elim
+    (λ e. absurd (p (sym (eqb-true c x e))))
+    (λ r. ⊎-elim
+    (λ e. absurd (q (sym (eqb-true c y e))))
+    (λ s. ⊎-elim (λ e. sym (eqb-true c z e)) (λ f. absurd (false≢true f)) (or-cases (eqb c z) false s))
+    (or-cases (eqb c y) (eqb c z || false) r))
+    (or-cases (eqb c x) (eqb c y || (eqb c z || false)) m)
+third-of (x ∷ y ∷ z ∷ w ∷ cs) c l m p q = absurd (omega arith)
+
+slots-three : (ks : List Constraint) (j : ℕ) → j < length (slots ks) → length (getD (slots ks) j []) ≡ 3
+slots-three [] j l = absurd (not-suc-le-zero l)
+slots-three (k ∷ ks) zero l = ap length (three-slots k .are)
+slots-three (k ∷ ks) (suc j) l = slots-three ks j (le-of-suc-le-suc l)
+
+-- all records are linked
+module _ (ks : List Constraint) (n : ℕ) (heads : List ℕ) (mentions : List Mention) (e : n ≡ length ks) (few : n ≤ most-records) (all : Linking (slots ks) 0 heads mentions) where
+  abbrev chains : Chains
+  chains = record { count = n; heads = heads; mentions = mentions }
+
+  slot-count : length (slots ks) ≡ n
+  slot-count = length-map ks cell-slots ∙ sym e
+
+  stored-count : length (take n mentions) ≡ n
+  stored-count = length-take-le n mentions (omega (arith, all .records))
+
+  stored-at : (j : ℕ) → j < length (slots-of chains) → getD (slots-of chains) j [] ≡ getD (slots ks) j []
+  stored-at j l =
+      let m = length-map (take n mentions) (λ m. m .cells) in
+      let below : j < n = omega (arith, m, stored-count) in
+      getD-map (λ m. m .cells) (take n mentions) j no-mention [] (omega (arith, stored-count))
+      ∙ ap (λ m. m .cells) (getD-take n mentions j no-mention below ∙ all .links j (omega arith) (omega (arith, slot-count)))
+
+  pub stored-slots : slots-of chains ≡ slots ks
+  stored-slots = ext-getD [] (slots-of chains) (slots ks) (length-map (take n mentions) (λ m. m .cells) ∙ stored-count ∙ sym slot-count) stored-at
+
+  pub linking-all : Chained (slots-of chains) chains
+  linking-all = subst (λ css. Chained css chains) (sym stored-slots) (record {
+    count = sym slot-count;
+    few = omega (arith, slot-count);
+    three = slots-three ks;
+    heads = all .first;
+    links = all .links;
+  })
+
+-- what is stored for a record, read back
+module _ (css : List (List ℕ)) (ch : Chains) (known : Chained css ch) (i : ℕ) (within : i < length css) where
+  abbrev stored : Mention
+  stored = getD (ch .mentions) i no-mention
+
+  stored-is : stored ≡ linked css i (getD css i [])
+  stored-is = known .links i (omega arith) within
+
+  next-at : (s : ℕ) → s < 3 → getD (stored .next) s 0 ≡ after css (getD (stored .cells) s 0) (i + 1)
+  next-at s l =
+      let f : ℕ → ℕ = λ c. after css c (i + 1) in
+      ap (λ m. getD (m .next) s 0) stored-is
+      ∙ getD-map f (getD css i []) s 0 0 (omega (arith, known .three i within))
+      ∙ ap (λ m. f (getD (m .cells) s 0)) (sym stored-is)
+
+  -- a slot that has the cell
+  pub next-found : (c s : ℕ) → s < 3 → getD (stored .cells) s 0 ≡ c → getD (stored .next) s 0 ≡ after css c (i + 1)
+  next-found c s l e = next-at s l ∙ ap (λ d. after css d (i + 1)) e
+
+  -- a cell that the record mentions, and not in its first two slots
+  pub in-third : (c : ℕ) → among c (getD css i []) ≡ true → (getD (stored .cells) 0 0 ≡ c → ⊥) → (getD (stored .cells) 1 0 ≡ c → ⊥) → getD (stored .cells) 2 0 ≡ c
+  in-third c m no-first no-second =
+      let cs = getD css i [] in
+      let same : stored .cells ≡ cs = ap (λ x. x .cells) stored-is in
+      ap (λ x. getD x 2 0) same ∙ third-of cs c (known .three i within) m (λ e. no-first (ap (λ x. getD x 0 0) same ∙ e)) (λ e. no-second (ap (λ x. getD x 1 0) same ∙ e))

@@ -1,16 +1,18 @@
 -- The chains as they are stored: the first record that mentions each cell, and for each record the next ones. Assumes nothing.
 use mathlib.Core.Path.{_≡_}
-use mathlib.Core.Bool.{Bool}
+use mathlib.Core.Bool.{Bool, false, cond}
 use mathlib.Core.List.{List, [], _∷_, map}
 use Prim.Native.Nat.{ℕ, _+_, _<_, _≤_}
+use lib.Dec.{eqb}
 use lib.ListN.{length, getD, take}
 use Rattle.tube.specs.Tubes.{most-cells}
 use Rattle.constraint.specs.Mentions.{cell-slots}
 use Rattle.constraint.specs.declared.constraint.Constraint.{Constraint}
-use Rattle.net.specs.Chains.{after}
+use Rattle.net.specs.Chains.{after, cursor, chosen}
 use Rattle.net.specs.Nets.{most-records}
 use Rattle.net.specs.declared.chains.Mention.{Mention}
 use Rattle.net.specs.declared.chains.Chains.{Chains}
+use Rattle.net.specs.declared.chains.Cursor.{Cursor}
 
 -- what each of some constraints mentions, in three slots
 abbrev pub slots : List Constraint → List (List ℕ)
@@ -39,5 +41,28 @@ Links css i mentions = (j : ℕ) → i ≤ j → j < length css → getD mention
 pub record Chained (css : List (List ℕ)) (ch : Chains) : Type 0 where
   pub count : ch .count ≡ length css
   pub few : length css ≤ most-records
+  pub three : (j : ℕ) → j < length css → length (getD css j []) ≡ 3
   pub heads : Heads css 0 (ch .heads)
   pub links : Links css 0 (ch .mentions)
+
+-- three cells, one for each slot
+abbrev pub slot : List ℕ → ℕ → ℕ
+slot cs s = getD cs s 0
+
+pub record Three (cs : List ℕ) : Type 0 where
+  pub are : cs ≡ slot cs 0 ∷ slot cs 1 ∷ slot cs 2 ∷ []
+  pub first : slot cs 0 < most-cells
+  pub second : slot cs 1 < most-cells
+  pub third : slot cs 2 < most-cells
+
+-- where the cursor of a cell stands, from a position on
+abbrev pub stands : List (List ℕ) → (counts : Bool) (cell from : ℕ) → Cursor
+stands css counts c from = record { cell = c; counts = counts; at = cursor css counts c from }
+
+-- the cursor once a position is passed
+abbrev pub passed : List (List ℕ) → Cursor → ℕ → Cursor
+passed css k i = record { cell = k .cell; counts = k .counts; at = cond (eqb (k .at) i) (after css (k .cell) (i + 1)) (k .at) }
+
+-- those of three cells that count
+abbrev pub counted : List ℕ → List Bool → List ℕ
+counted cs bs = chosen (getD bs 0 false ∷ getD bs 1 false ∷ getD bs 2 false ∷ []) (slot cs 0 ∷ slot cs 1 ∷ slot cs 2 ∷ [])

@@ -1,12 +1,12 @@
-use mathlib.Core.Path.{_≡_, sym, ap, subst, _∙_}
+use mathlib.Core.Path.{_≡_, refl, sym, ap, subst, _∙_}
 use mathlib.Core.List.{[]}
 use native.Mathlib.Omega.{arith}
 use Prim.Native.Nat.{_-_, _+_, _<_}
 use lib.ListN.{length, getD}
 use Rattle.std.proofs.shelf.Lists.{getD-map, length-map}
 use Rattle.constraint.specs.Mentions.{cell-slots}
-use Rattle.net.specs.Links.{slots}
-use Rattle.net.proofs.Linking.{Linking, Three, three-slots, linking-none, linking-more, linking-all}
+use Rattle.net.specs.Links.{slots, Three}
+use Rattle.net.proofs.Linking.{Linking, three-slots, linking-none, linking-more, stored-slots, linking-all}
 use Rattle.net.proofs.chains.Chains.of.Needs as need
 
 placed : (c : need.After-cells-cells) → Three (c .cells-cells .result)
@@ -65,4 +65,5 @@ pub returns : need.returns
 returns c =
     let records = c .args .records .now in
     let over : c .loop-i .i ≡ 0 = omega arith in
-    linking-all (slots records) (length records) (c .loop-i .heads) (c .loop-i .mentions) (sym (length-map records cell-slots)) (c .pre) (subst (λ n. Linking (slots records) n (c .loop-i .heads) (c .loop-i .mentions)) over (c .loop-i .inv))
+    let all = subst (λ n. Linking (slots records) n (c .loop-i .heads) (c .loop-i .mentions)) over (c .loop-i .inv) in
+    record { slots = stored-slots records (length records) (c .loop-i .heads) (c .loop-i .mentions) refl (c .pre) all; chained = linking-all records (length records) (c .loop-i .heads) (c .loop-i .mentions) refl (c .pre) all }
