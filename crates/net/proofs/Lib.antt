@@ -10,3 +10,4 @@ pub mod Joined
 pub mod Rings
 pub mod Linking
 pub mod Waking
+pub mod Piling

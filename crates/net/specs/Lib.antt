@@ -2,3 +2,4 @@ pub mod Nets
 pub mod Chains
 pub mod Queues
 pub mod Links
+pub mod Piles
