@@ -1,4 +1,5 @@
 pub mod Bounds
+pub mod Confined
 pub mod Fairs
 pub mod Hulls
 pub mod Keeping

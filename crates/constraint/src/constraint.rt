@@ -1,6 +1,7 @@
 // A constraint of any kind, itself a contractor.
 ghost use mathlib.Core.Path.{_≡_};
 ghost use Rattle.constraint.specs.Kinds.{constraint-value};
+ghost use Rattle.constraint.specs.Mentions.{cell-slots};
 use crate::bound::Bound;
 use crate::bound::BoundContractor;
 use crate::bound::BoundDebug;
@@ -22,6 +23,19 @@ pub enum Constraint {
     Bound(Bound),
     Step(Step),
     Range(Range),
+}
+
+impl Constraint {
+    // The cells that it mentions, in three slots: the last stands again in each slot that is left.
+    pub fn cells(self) -> [u16; 3]
+        ensures { λ r. ⌜ r ≡ cell-slots self ⌝ }
+    {
+        match self {
+            Constraint::Bound(k) => k.cells(),
+            Constraint::Step(k) => k.cells(),
+            Constraint::Range(k) => k.cells(),
+        }
+    }
 }
 
 pub impl Contractor for Constraint as ConstraintContractor {

@@ -1,6 +1,8 @@
 // Making a bound, and what it does as a contractor.
+ghost use mathlib.Core.Path.{_≡_};
 ghost use Rattle.contractor.specs.Contractors.{Value};
 ghost use Rattle.constraint.specs.Kinds.{bound-value, MadeBound};
+ghost use Rattle.constraint.specs.Mentions.{bound-cells, in-slots};
 use super::Bound;
 use crate::answers::empty_at;
 use crate::answers::settled;
@@ -28,6 +30,13 @@ impl Bound {
             cell: cell as u16,
             span,
         })
+    }
+
+    // The cell that it mentions, in three slots.
+    pub(crate) fn cells(self) -> [u16; 3]
+        ensures { λ r. ⌜ r ≡ in-slots (bound-cells self) ⌝ }
+    {
+        [self.cell, self.cell, self.cell]
     }
 }
 

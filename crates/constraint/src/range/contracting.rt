@@ -5,6 +5,7 @@ ghost use Rattle.tube.specs.Intervals.{row-of, row-if-any};
 ghost use Rattle.constraint.specs.Constraints.{axis-row};
 ghost use Rattle.constraint.specs.Kinds.{range-value, MadeRange};
 ghost use Rattle.constraint.specs.Makings.{is-coordinate, are-distances, are-range-values};
+ghost use Rattle.constraint.specs.Mentions.{range-cells, in-slots};
 use super::Beacon;
 use super::Range;
 use crate::answers::empty_at;
@@ -52,6 +53,13 @@ impl Range {
             nearest,
             farthest,
         })
+    }
+
+    // The cells that it mentions, in three slots.
+    pub(crate) fn cells(self) -> [u16; 3]
+        ensures { λ r. ⌜ r ≡ in-slots (range-cells self) ⌝ }
+    {
+        [self.x, self.y, self.y]
     }
 
     // What is left of the point's interval on the x axis, and on the y axis.

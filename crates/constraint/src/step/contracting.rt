@@ -1,5 +1,7 @@
 // Making a step, and what it does as a contractor.
+ghost use mathlib.Core.Path.{_≡_};
 ghost use Rattle.constraint.specs.Kinds.{step-value, MadeStep};
+ghost use Rattle.constraint.specs.Mentions.{step-cells, in-slots};
 use super::Step;
 use crate::answers::empty_at;
 use crate::answers::settled;
@@ -30,6 +32,13 @@ impl Step {
             by: by as u16,
             to: to as u16,
         })
+    }
+
+    // The cells that it mentions.
+    pub(crate) fn cells(self) -> [u16; 3]
+        ensures { λ r. ⌜ r ≡ in-slots (step-cells self) ⌝ }
+    {
+        [self.from, self.by, self.to]
     }
 }
 

@@ -1,0 +1,5 @@
+pub mod Nets
+pub mod Chains
+pub mod Queues
+pub mod Links
+pub mod Piles
