@@ -11,6 +11,7 @@ use Rattle.contractor.specs.Contractors.{Value}
 use Rattle.contractor.specs.declared.answer.Fault.{Fault}
 use Rattle.contractor.specs.declared.answer.Mark.{Mark}
 use Rattle.contractor.specs.declared.answer.Verdict.the-variants.{Kept as kept, Empty as empty}
+use Rattle.net.specs.Piles.{Piles-keep}
 use Rattle.track.specs.Histories.{State, resting, proposing, emptied, Use, refused, proposed, used, committed, withdrawn, closed, Next, History, Histories-keep}
 use Rattle.track.specs.Refusals.{make-refusal, copy-refusal, use-refusal}
 use Rattle.track.specs.declared.refusal.TrackRefusal.{TrackRefusal}
@@ -31,9 +32,13 @@ at-proposal p c w = record { cells = p .cells; allowance = p .allowance; charged
 abbrev pub at-emptied : Emptied → List Row → List Row → State
 at-emptied e c w = record { cells = e .cells; allowance = e .allowance; charged = e .charged; standing = emptied (e .fault); committed = c; work = w }
 
--- A making: from it on, whatever follows, every history keeps its promises.
+-- A making: from it on, whatever follows, every history keeps its promises, with whatever contractors that keep the meaning, and every pile of those keeps it.
 abbrev pub Made : (first : List Row) (allowance : ℕ) → Result Rest TrackRefusal → Type 0
-Made first allowance (Ok r) = (make-refusal first allowance ≡ None) × ((work : List Row) → History allowance first [] (at-rest r first work)) × Histories-keep allowance first
+Made first allowance (Ok r) =
+    (make-refusal first allowance ≡ None)
+    × ((work : List Row) → History allowance first [] (at-rest r first work))
+    × Histories-keep allowance first
+    × Piles-keep
 Made first allowance (Err e) = make-refusal first allowance ≡ Some e
 
 -- a proposing, with the committed table and the work table before and after
