@@ -1,5 +1,4 @@
 pub mod Constraints
-pub mod Examples
 pub mod Hulls
 pub mod Kinds
 pub mod Makings

@@ -3,3 +3,4 @@ pub mod Chains
 pub mod Queues
 pub mod Links
 pub mod Piles
+pub mod Examples

@@ -3,7 +3,10 @@ ghost use Rattle.net.specs.Nets.{Nets-keep};
 ghost use Rattle.net.specs.Piles.{Piles-keep};
 
 mod chains;
+mod examples;
 mod waiting;
+
+pub use examples::examples_hold;
 
 // The most records that a net holds.
 pub const MAX_RECORDS: usize = 512;
