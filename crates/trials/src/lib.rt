@@ -1,3 +1,5 @@
-// Tests of whole tracks: which calls are refused, with which number, and what is left.
+// Tests of piles and of whole tracks: what is answered, which calls are refused and with which number, and what is left.
+#[cfg(test)]
+mod layers;
 #[cfg(test)]
 mod tracks;
