@@ -2,3 +2,5 @@ pub mod Nets
 pub mod Chains
 pub mod Queues
 pub mod Links
+pub mod Records
+pub mod Uses

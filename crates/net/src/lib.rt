@@ -2,10 +2,13 @@
 ghost use Rattle.net.specs.Nets.{Nets-keep};
 
 mod chains;
+mod net;
+mod run;
 mod waiting;
 
-// The most records that a net holds.
-pub const MAX_RECORDS: usize = 512;
+pub use net::MAX_RECORDS;
+pub use net::Net;
+pub use net::NetContractor;
 
 // Whatever records a net has, if each keeps the meaning of a contractor, so does the net.
 pub fn nets_keep()
