@@ -8,6 +8,9 @@ pub mod Cursors
 pub mod Apart
 pub mod Joined
 pub mod Rings
+pub mod Slots
+pub mod Holding
 pub mod Linking
+pub mod Running
 pub mod Waking
 pub mod Piling

@@ -13,13 +13,12 @@ use Rattle.std.proofs.shelf.Tests.{cases-eq, cond-true, cond-false, eq-eqb, eqb
 use Rattle.tube.specs.Tubes.{most-cells}
 use Rattle.constraint.specs.Mentions.{cell-slots}
 use Rattle.constraint.specs.declared.constraint.Constraint.{Constraint}
-use Rattle.constraint.specs.declared.constraint.Constraint.the-variants.{Bound as of-bound, Step as of-step, Range as of-range}
-use Rattle.constraint.proofs.Confined.{cells-placed}
 use Rattle.net.specs.Nets.{among, most-records}
 use Rattle.net.specs.Chains.{after}
 use Rattle.net.specs.Links.{slots, slots-of, slot, Three, no-mention, Heads, linked, Links, Chained}
 use Rattle.net.specs.declared.chains.Mention.{Mention}
 use Rattle.net.specs.declared.chains.Chains.{Chains}
+use Rattle.net.proofs.Slots.{three-slots}
 
 -- the first record that mentions a cell, past the end and one position before
 after-end : (css : List (List ℕ)) (c : ℕ) → after css c (length css) ≡ length css
@@ -86,17 +85,11 @@ linking-none css n m e = record {
   links = λ j from l. absurd (omega arith);
 }
 
--- a constraint has three slots
-pub three-slots : (k : Constraint) → Three (cell-slots k)
-three-slots (of-bound k) = let p = cells-placed (of-bound k) in record { are = refl; first = omega arith; second = omega arith; third = omega arith }
-three-slots (of-step k) = let p = cells-placed (of-step k) in record { are = refl; first = omega arith; second = omega arith; third = omega arith }
-three-slots (of-range k) = let p = cells-placed (of-range k) in record { are = refl; first = omega arith; second = omega arith; third = omega arith }
-
 -- what is stored for a record with these cells
 abbrev pub mention : List ℕ → List ℕ → Mention
 mention heads cs = record { cells = cs; next = getD heads (slot cs 0) 0 ∷ getD heads (slot cs 1) 0 ∷ getD heads (slot cs 2) 0 ∷ [] }
 
-module _ (css : List (List ℕ)) (i : ℕ) (heads : List ℕ) (mentions : List Mention) (sofar : Linking css (i + 1) heads mentions) (within : i < length css) (few : length css ≤ most-records) (cs : List ℕ) (three : Three cs) (here : getD css i [] ≡ cs) where
+module _ (css : List (List ℕ)) (i : ℕ) (heads : List ℕ) (mentions : List Mention) (sofar : Linking css (i + 1) heads mentions) (within : i < length css) (few : length css ≤ most-records) (cs : List ℕ) (three : Three most-cells cs) (here : getD css i [] ≡ cs) where
   mention-linked : mention heads cs ≡ linked css i (getD css i [])
   mention-linked =
       let a = sofar .first (slot cs 0) (three .first) in

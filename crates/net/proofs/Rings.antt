@@ -11,8 +11,9 @@ use borrow.Author.Count.{below-more}
 use Rattle.std.proofs.shelf.Elements.{all-push}
 use Rattle.std.proofs.shelf.Lists.{getD-set-same, getD-set-other, length-set}
 use Rattle.std.proofs.shelf.Tests.{cases-bool, cases-eq, cases-lt, cond-true, cond-false, eq-eqb, ne-eqb, or-right}
-use Rattle.net.specs.Nets.{waits, positions, most-records}
-use Rattle.net.specs.Queues.{queue-list, queue-of, Apart, Below, Marked, Queued, Taken, joined-by, is-empty}
+use Rattle.contractor.specs.declared.answer.Mark.the-variants.{Settled, Stopped}
+use Rattle.net.specs.Nets.{waits, positions, rest-mark, most-records}
+use Rattle.net.specs.Queues.{queue-list, queue-of, Apart, Below, Marked, Queued, joined-by}
 use Rattle.net.specs.declared.waiting.Waiting.{Waiting}
 use Rattle.net.proofs.Apart.{waits-push, apart-push, room, positions-wait, positions-past, positions-apart}
 use Rattle.net.proofs.Queues.{positions-below}
@@ -57,12 +58,19 @@ queue-start ring from (suc count) few own =
     let e : from % most-records ≡ from = omega arith in
     ap₂ _∷_ (ap (λ p. getD ring p 0) e ∙ own from (omega arith)) (queue-start ring (from + 1) count (omega arith) (λ k l. own k (omega arith)))
 
-empty-list : (ring : List ℕ) (head count : ℕ) → eqb count 0 ≡ is-empty (queue-list head count ring)
-empty-list ring head zero = refl
-empty-list ring head (suc count) = ne-eqb (suc count) 0 (λ e. omega arith)
+-- how a run ends here
+mark-none : (ring : List ℕ) (head count : ℕ) → count ≡ 0 → rest-mark (queue-list head count ring) ≡ Settled
+mark-none ring head count e = ap (λ n. rest-mark (queue-list head n ring)) e
 
-pub queue-empty : (w : Waiting) → eqb (w .count) 0 ≡ is-empty (queue-of w)
-queue-empty w = empty-list (w .ring) (w .head) (w .count)
+mark-some : (ring : List ℕ) (head count : ℕ) → (count ≡ 0 → ⊥) → rest-mark (queue-list head count ring) ≡ Stopped
+mark-some ring head zero some = absurd (some refl)
+mark-some ring head (suc count) some = refl
+
+pub none-left : (w : Waiting) → w .count ≡ 0 → rest-mark (queue-of w) ≡ Settled
+none-left w e = mark-none (w .ring) (w .head) (w .count) e
+
+pub some-left : (w : Waiting) → (w .count ≡ 0 → ⊥) → rest-mark (queue-of w) ≡ Stopped
+some-left w some = mark-some (w .ring) (w .head) (w .count) some
 
 pub none-waits : (w : Waiting) → w .count ≡ 0 → queue-of w ≡ []
 none-waits w e = ap (λ n. queue-list (w .head) n (w .ring)) e

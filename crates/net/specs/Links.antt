@@ -45,15 +45,15 @@ pub record Chained (css : List (List ℕ)) (ch : Chains) : Type 0 where
   pub heads : Heads css 0 (ch .heads)
   pub links : Links css 0 (ch .mentions)
 
--- three cells, one for each slot
+-- three cells below n, one for each slot
 abbrev pub slot : List ℕ → ℕ → ℕ
 slot cs s = getD cs s 0
 
-pub record Three (cs : List ℕ) : Type 0 where
+pub record Three (n : ℕ) (cs : List ℕ) : Type 0 where
   pub are : cs ≡ slot cs 0 ∷ slot cs 1 ∷ slot cs 2 ∷ []
-  pub first : slot cs 0 < most-cells
-  pub second : slot cs 1 < most-cells
-  pub third : slot cs 2 < most-cells
+  pub first : slot cs 0 < n
+  pub second : slot cs 1 < n
+  pub third : slot cs 2 < n
 
 -- where the cursor of a cell stands, from a position on
 abbrev pub stands : List (List ℕ) → (counts : Bool) (cell from : ℕ) → Cursor

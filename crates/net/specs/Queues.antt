@@ -46,7 +46,3 @@ Taken q (Some i) left = q ≡ i ∷ left
 -- one joins the end, unless it waits already
 abbrev pub joined-by : ℕ → List ℕ → List ℕ
 joined-by i q = cond (waits i q) q (q ++ i ∷ [])
-
-abbrev pub is-empty : List ℕ → Bool
-is-empty [] = true
-is-empty (i ∷ q) = false

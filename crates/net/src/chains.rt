@@ -9,7 +9,7 @@ ghost use Rattle.net.specs.Chains.{after};
 ghost use Rattle.net.specs.Links.{slots, slots-of, Three, Chained, counted, stands, passed};
 ghost use Rattle.net.specs.Nets.{among, joining, most-records};
 ghost use Rattle.net.specs.Queues.{queue-of, Queued};
-use crate::MAX_RECORDS;
+use crate::net::MAX_RECORDS;
 use crate::waiting::Waiting;
 use constraint::Constraint;
 use tube::MAX_CELLS;
@@ -120,7 +120,7 @@ impl Chains {
     pub(crate) fn wake(&self, waiting: &mut Waiting, cells: [u16; 3], narrower: [bool; 3])
         requires chained { ⌜ Chained (slots-of (now self)) (now self) ⌝ }
         requires queued { ⌜ Queued (now waiting) ⌝ }
-        requires placed { ⌜ Three cells ⌝ }
+        requires placed { ⌜ Three most-cells cells ⌝ }
         ensures joined { λ _. ⌜ queue-of (now (waiting .exit)) ≡ queue-of (now (waiting .entry)) ++ joining (slots-of (now (self .entry))) 0 (queue-of (now (waiting .entry))) (λ c. among c (counted cells narrower)) ⌝ }
         ensures queued { λ _. ⌜ Queued (now (waiting .exit)) ⌝ }
     {

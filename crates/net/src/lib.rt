@@ -4,12 +4,14 @@ ghost use Rattle.net.specs.Piles.{Piles-keep};
 
 mod chains;
 mod examples;
+mod net;
+mod run;
 mod waiting;
 
 pub use examples::examples_hold;
-
-// The most records that a net holds.
-pub const MAX_RECORDS: usize = 512;
+pub use net::MAX_RECORDS;
+pub use net::Net;
+pub use net::NetContractor;
 
 // Whatever records a net has, if each keeps the meaning of a contractor, so does the net.
 pub fn nets_keep()

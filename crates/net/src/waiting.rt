@@ -1,9 +1,10 @@
 // The records that wait to be used, in the order in which they will be.
 ghost use mathlib.Core.Path.{_≡_};
 ghost use Prim.Native.Nat.{_<_, _≤_};
-ghost use Rattle.net.specs.Nets.{positions, most-records};
-ghost use Rattle.net.specs.Queues.{queue-of, Queued, Taken, joined-by, is-empty};
-use crate::MAX_RECORDS;
+ghost use Rattle.net.specs.Nets.{positions, rest-mark, most-records};
+ghost use Rattle.net.specs.Queues.{queue-of, Queued, Taken, joined-by};
+use crate::net::MAX_RECORDS;
+use contractor::Mark;
 
 // A ring of positions in the net's list, and a mark for each record that stands in it.
 #[derive(Drop)]
@@ -35,10 +36,15 @@ impl Waiting {
         }
     }
 
-    pub(crate) fn is_empty(&self) -> bool
-        ensures { λ r. ⌜ r ≡ is-empty (queue-of (now (self .entry))) ⌝ }
+    // How a run is told that ends here.
+    pub(crate) fn mark(&self) -> Mark
+        ensures { λ r. ⌜ r ≡ rest-mark (queue-of (now (self .entry))) ⌝ }
     {
-        self.count == 0
+        if self.count == 0 {
+            Mark::Settled
+        } else {
+            Mark::Stopped
+        }
     }
 
     // Takes off the first.

@@ -4,13 +4,15 @@ use native.Mathlib.Omega.{arith}
 use Prim.Native.Nat.{_-_, _+_, _<_}
 use lib.ListN.{length, getD}
 use Rattle.std.proofs.shelf.Lists.{getD-map, length-map}
+use Rattle.tube.specs.Tubes.{most-cells}
 use Rattle.constraint.specs.Mentions.{cell-slots}
 use Rattle.net.specs.Links.{slots, Three}
-use Rattle.net.proofs.Linking.{Linking, three-slots, linking-none, linking-more, stored-slots, linking-all}
+use Rattle.net.proofs.Linking.{Linking, linking-none, linking-more, stored-slots, linking-all}
+use Rattle.net.proofs.Slots.{three-slots}
 use Rattle.net.proofs.chains.Chains.of.Needs as need
 
-placed : (c : need.After-cells-cells) → Three (c .cells-cells .result)
-placed c = subst Three (sym (c .cells-cells .ensures)) (three-slots (c .index-records-i .result))
+placed : (c : need.After-cells-cells) → Three most-cells (c .cells-cells .result)
+placed c = subst (Three most-cells) (sym (c .cells-cells .ensures)) (three-slots (c .index-records-i .result))
 
 pub loop-i-holds : need.loop-i-holds
 loop-i-holds c = linking-none (slots (c .args .records .now)) (length (c .args .records .now)) _ (sym (length-map (c .args .records .now) cell-slots))
