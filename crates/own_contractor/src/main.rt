@@ -1,8 +1,8 @@
 // A contractor of one's own, written outside the library and piled with the library's contractors under its layers.
 use constraint::Bound;
 use constraint::BoundContractor;
+use constraint::Constraint;
 use constraint::Step;
-use constraint::StepContractor;
 use contractor::Both;
 use contractor::BothContractor;
 use contractor::Contractor;
@@ -13,6 +13,8 @@ use contractor::Repeat;
 use contractor::RepeatContractor;
 use contractor::Rounds;
 use contractor::Verdict;
+use net::Net;
+use net::NetContractor;
 use std::error::AnyError;
 use tube::MakingFaultDisplay;
 use tube::MakingFaultError;
@@ -39,7 +41,13 @@ fn show(rt: &LibcRuntime) -> Result<(), AnyError> {
         &mut behind_diver,
         &mut tube,
     )?;
-    let moves = Step::new(2, 0, 1, 2)?;
+    let Ok(rounds) = Rounds::new(5) else {
+        return Err("no such number of rounds".into());
+    };
+    let mut moves = Net::new(rounds);
+    if moves.push(Constraint::Step(Step::new(2, 0, 1, 2)?)).is_err() || moves.push(Constraint::Bound(Bound::new(6, 1, 0, 65)?)).is_err() {
+        return Err("no room in the net".into());
+    }
     let either_time = Either {
         first: Bound::new(3, 3, 30, 40)?,
         second: Bound::new(4, 3, 60, 70)?,
@@ -51,16 +59,13 @@ fn show(rt: &LibcRuntime) -> Result<(), AnyError> {
             second: either_time,
         },
     };
-    let Ok(rounds) = Rounds::new(5) else {
-        return Err("no such number of rounds".into());
-    };
     let mut pile = Repeat {
         rounds,
         part: together,
     };
     use_it(
         rt,
-        "five rounds of its steps, of staying behind, and of one of two sightings of the diver",
+        "five rounds of a net of its moves, of staying behind, and of one of two sightings of the diver",
         &mut pile,
         &mut tube,
     )?;

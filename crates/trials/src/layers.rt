@@ -113,26 +113,3 @@ fn ceilings() -> Result<(), Fail> {
     check_eq(past.ceiling(), 1_000_000_001)?;
     check(past.contract(&mut [Row { low: 0, high: 9 }]).is_err())
 }
-
-fn four_over<C: Contractor>(part: C, rounds: Rounds) -> Repeat<Repeat<Repeat<Repeat<C>>>> {
-    let part = Repeat { rounds, part };
-    let part = Repeat { rounds, part };
-    let part = Repeat { rounds, part };
-    Repeat { rounds, part }
-}
-
-// A fault sixteen layers up; a seventeenth layer is refused.
-#[test]
-fn heights() -> Result<(), Fail> {
-    let one = Rounds::new(1)?;
-    let mut high = four_over(four_over(four_over(four_over(bound(1, 20, 30)?, one), one), one), one);
-    check_eq(high.height(), 16)?;
-    // Sixteen digits 4 in base 8.
-    check_eq(high.contract(&mut [Row { low: 0, high: 9 }])?, empty(1, 160_842_843_834_660, 1))?;
-    let mut higher = Repeat {
-        rounds: one,
-        part: high,
-    };
-    check_eq(higher.height(), 17)?;
-    check(higher.contract(&mut [Row { low: 0, high: 9 }]).is_err())
-}

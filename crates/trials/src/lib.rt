@@ -2,4 +2,6 @@
 #[cfg(test)]
 mod layers;
 #[cfg(test)]
+mod nets;
+#[cfg(test)]
 mod tracks;
