@@ -1,0 +1,10 @@
+// The swim log, from its bytes to its records, and the report that is printed.
+mod fault;
+mod field;
+mod sizes;
+
+pub use fault::BadRecord;
+pub use fault::FieldFault;
+pub use fault::LogFault;
+pub use fault::RecordFault;
+pub use sizes::Sizes;
