@@ -1,3 +1,5 @@
 pub mod Limits
 pub mod Faults
 pub mod Format
+pub mod Records
+pub mod Logs

@@ -1,6 +1,10 @@
 // The swim log, from its bytes to its records, and the report that is printed.
 mod fault;
 mod field;
+mod kind;
+mod layout;
+mod place;
+mod record;
 mod sizes;
 
 pub use fault::BadRecord;
