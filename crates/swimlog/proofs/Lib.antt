@@ -1,2 +1,4 @@
 pub mod Sayings
 pub mod Readings
+pub mod Earliest
+pub mod Checks

@@ -1,5 +1,5 @@
 -- What a field that was read tells, and a record that stands in the bytes whole. Assumes nothing.
-use mathlib.Core.Path.{_≡_, sym, ap, subst}
+use mathlib.Core.Path.{_≡_, sym, ap, subst, _∙_}
 use mathlib.Core.Bool.{Bool, true, false, cond}
 use mathlib.Core.List.{List}
 use Prim.Native.Nat.{ℕ, _+_, _≤_}
@@ -27,11 +27,15 @@ ok-by-test false value v e = let z : _≡_ {A = ℕ} 0 1 = cc in absurd (omega a
 pub field-read : {X : Type 0} (bytes : List ℕ) (end : ℕ) (value v : X) → Ok v ≡ field bytes end value → (end ≤ length bytes) × (v ≡ value)
 field-read bytes end value v e = let k = ok-by-test (leb end (length bytes)) value v e in let whole : leb end (length bytes) ≡ true = k .0 in (grind (arith, tells), k .1)
 
-module _ (bytes : List ℕ) (gates records index : ℕ) (r : Result Constraint RecordFault) (whole : body-start records index + body-length ≤ length bytes) where
-  pub reads-whole : Reads (record-of bytes gates records index) r → Reads (record-in bytes gates records index) r
-  reads-whole h =
+module _ (bytes : List ℕ) (gates records index : ℕ) (whole : body-start records index + body-length ≤ length bytes) where
+  pub whole-record : record-in bytes gates records index ≡ record-of bytes gates records index
+  whole-record =
       let t : leb (body-start records index + body-length) (length bytes) ≡ true = grind (arith, tells) in
-      subst (λ b. Reads (cond b (record-of bytes gates records index) (Err CutOff)) r) (sym t) h
+      ap (λ b. cond b (record-of bytes gates records index) (Err CutOff)) t
 
-  pub reads-parts : (number : ℕ) (h : Head) (b : Body) → number ≡ record-constraint gates index → h ≡ head-of bytes index → b ≡ body-of bytes records index → Reads (record-says gates number h b) r → Reads (record-in bytes gates records index) r
-  reads-parts number h b n p q e = reads-whole (subst (λ x. Reads (record-says gates x (head-of bytes index) (body-of bytes records index)) r) n (subst (λ x. Reads (record-says gates number x (body-of bytes records index)) r) p (subst (λ x. Reads (record-says gates number h x) r) q e)))
+  pub reads-parts : (r : Result Constraint RecordFault) (number : ℕ) (h : Head) (b : Body) → number ≡ record-constraint gates index → h ≡ head-of bytes index → b ≡ body-of bytes records index → Reads (record-says gates number h b) r → Reads (record-in bytes gates records index) r
+  reads-parts r number h b n p q e =
+      let by-number : record-says gates number h b ≡ record-says gates (record-constraint gates index) h b = ap (λ x. record-says gates x h b) n in
+      let by-head : record-says gates (record-constraint gates index) h b ≡ record-says gates (record-constraint gates index) (head-of bytes index) b = ap (λ x. record-says gates (record-constraint gates index) x b) p in
+      let by-body : record-says gates (record-constraint gates index) (head-of bytes index) b ≡ record-of bytes gates records index = ap (λ x. record-says gates (record-constraint gates index) (head-of bytes index) x) q in
+      subst (λ said. Reads said r) (by-number ∙ by-head ∙ by-body ∙ sym whole-record) e

@@ -5,6 +5,7 @@ use mathlib.Core.List.{List, [], _∷_}
 use Prim.Native.Nat.{ℕ, _+_, _-_, _*_}
 use lib.Dec.{eqb, ltb}
 use lib.IntN.{ℤ, pos}
+use Rattle.std.specs.Options.{mapped}
 use Rattle.std.specs.declared.option.Option.{Option}
 use Rattle.std.specs.declared.option.Option.the-variants.{Some, None}
 use Rattle.std.specs.declared.result.Result.{Result}
@@ -30,15 +31,11 @@ use Rattle.swimlog.specs.declared.kind.Kind.the-variants.{Position, Step, Dist
 abbrev pub axis-of : ℕ → Option Axis
 axis-of axis = cond (eqb axis 0) (Some X) (cond (eqb axis 1) (Some Y) None)
 
-abbrev pub on-axis : (Axis → Kind) → Option Axis → Option Kind
-on-axis kind (Some axis) = Some (kind axis)
-on-axis kind None = None
-
 -- the letters B, S and R; a distance has no axis of its own, and stands with axis 0
 abbrev pub kind-of : (kind axis : ℕ) → Option Kind
 kind-of kind axis =
-    cond (eqb kind 66) (on-axis Position (axis-of axis))
-    (cond (eqb kind 83) (on-axis Step (axis-of axis))
+    cond (eqb kind 66) (mapped Position (axis-of axis))
+    (cond (eqb kind 83) (mapped Step (axis-of axis))
     (cond (eqb kind 82 && eqb axis 0) (Some Distance) None))
 
 -- ---- places
