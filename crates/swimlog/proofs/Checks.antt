@@ -48,9 +48,9 @@ module _ (bytes : List ℕ) (sizes : Sizes) (sized : has-sizes bytes ≡ true) (
     pub all-good : earliest-fault bytes (sizes .gates) (sizes .records) (sizes .records) ≡ None → log-fault bytes ≡ None
     all-good none = past-length ∙ sym (as-read (records-of bytes)) ∙ ap (earliest-fault bytes (sizes .gates) (sizes .records)) (sym (same .same-records)) ∙ none
 
-    pub bad-record : (i : ℕ) (e : LogFault) → i < sizes .records → earliest-fault bytes (sizes .gates) (sizes .records) i ≡ None → record-fault bytes (sizes .gates) (sizes .records) i ≡ Some e → log-fault bytes ≡ Some e
+    pub bad-record : (i : ℕ) (e : LogFault) → i < sizes .records → earliest-fault bytes (sizes .gates) (sizes .records) i ≡ None → Some e ≡ record-fault bytes (sizes .gates) (sizes .records) i → log-fault bytes ≡ Some e
     bad-record i e below none here =
-        past-length ∙ sym (as-read (records-of bytes)) ∙ ap (earliest-fault bytes (sizes .gates) (sizes .records)) (sym (same .same-records)) ∙ earliest-found bytes (sizes .gates) (sizes .records) i (sizes .records) e below none here
+        past-length ∙ sym (as-read (records-of bytes)) ∙ ap (earliest-fault bytes (sizes .gates) (sizes .records)) (sym (same .same-records)) ∙ earliest-found bytes (sizes .gates) (sizes .records) i (sizes .records) e below none (sym here)
 
 pub checked-refused : (bytes : List ℕ) (r : Result Sizes LogFault) (e f : LogFault) → r ≡ Err f → f ≡ e → log-fault bytes ≡ Some e → Checked bytes r
 checked-refused bytes r e f refused same fault = subst (Checked bytes) (sym refused) (fault ∙ ap Some (sym same))

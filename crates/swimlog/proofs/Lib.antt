@@ -2,3 +2,4 @@ pub mod Sayings
 pub mod Readings
 pub mod Earliest
 pub mod Checks
+pub mod Puts

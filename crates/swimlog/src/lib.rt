@@ -6,11 +6,14 @@ mod layout;
 mod log;
 mod place;
 mod record;
+mod report;
 mod sizes;
+mod slice;
 
 pub use fault::BadRecord;
 pub use fault::FieldFault;
 pub use fault::LogFault;
 pub use fault::RecordFault;
 pub use log::check_log;
+pub use report::Report;
 pub use sizes::Sizes;

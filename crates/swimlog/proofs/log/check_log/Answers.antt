@@ -23,7 +23,7 @@ returns-in-Break-check-record c =
     let p = err-from-errBy (c .from-residual-in-Break-check-record .result) (c .from-residual-in-Break-check-record .ensures .1) in
     let h = c .in-Continue-sizes .ensures tt in
     checked-refused (c .args .bytes .now) (c .from-residual-in-Break-check-record .result) (c .in-Break-check-record .field-0 .0) (p .0) (p .1) (p .2)
-    (bad-record (c .args .bytes .now) (c .in-Continue-sizes .sizes) (h .0) (h .1) (omega arith) (c .loop-index .index) _ (omega arith) (c .loop-index .inv) (sym (c .in-Break-check-record .ensures tt)))
+    (bad-record (c .args .bytes .now) (c .in-Continue-sizes .sizes) (h .0) (h .1) (omega arith) (c .loop-index .index) _ (omega arith) (c .loop-index .inv) (c .in-Break-check-record .ensures tt))
 
 pub loop-index-again : need.loop-index-again
 loop-index-again c = earliest-more (c .args .bytes .now) (c .in-Continue-sizes .sizes .gates) (c .in-Continue-sizes .sizes .records) (c .loop-index .index) (c .loop-index .inv) (sym (c .in-Continue-check-record .ensures tt))
