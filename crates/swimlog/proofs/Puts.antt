@@ -1,13 +1,17 @@
 -- Bytes put into a buffer, some after others. Assumes nothing.
 use mathlib.Core.Path.{_≡_, refl, sym, ap, subst, _∙_}
 use mathlib.Core.Bool.{true, false}
-use mathlib.Core.List.{List, [], _∷_, _++_, append-assoc}
+use mathlib.Core.List.{List, [], _∷_, _++_, map, append-nil, append-assoc}
 use native.Mathlib.Omega.{arith}
 use Rattle.std.specs.Results.{isErr}
 use Rattle.std.specs.declared.alloc.AllocError.{AllocError}
 use Rattle.std.specs.declared.result.Result.{Result}
 use Rattle.std.specs.declared.result.Result.the-variants.{Ok, Err}
-use Rattle.swimlog.specs.Report.{Put}
+use Rattle.std.proofs.shelf.Lists.{take-more, map-append}
+use lib.IntN.{ℤ, pos, negsuc, natAbs}
+use lib.ListN.{length, getD, take}
+use lib.Signed.{ltZ}
+use Rattle.swimlog.specs.Report.{Put, space, spaced}
 use Prim.Native.Nat.{ℕ, _+_, _/_, _%_, _^_, _≤_, _<_}
 use native.Mathlib.Nat.{mod-eq-of-lt}
 use Rattle.std.specs.Written.{decimal, signed}
@@ -16,19 +20,19 @@ use Rattle.std.proofs.shelf.Decimals.{decimal-digit, decimal-step}
 pub put-as : (before more other after : List ℕ) (r : Result (Unit {0}) AllocError) → more ≡ other → Put before more r after → Put before other r after
 put-as before more other after r same h = subst (λ m. Put before m r after) same h
 
--- where there is no memory, what is there is all that counts
-pub put-stopped : (before more part after : List ℕ) (r : Result (Unit {0}) AllocError) → isErr r ≡ true → after ≡ before ++ part → Put before more r after
-put-stopped before more part after (Ok u) stop e = absurd (grind arith)
-put-stopped before more part after (Err x) stop e = (part, e)
-
 -- one after the other
-module _ (before mid after a b : List ℕ) (first : mid ≡ before ++ a) where
-  both : after ≡ mid ++ b → after ≡ before ++ (a ++ b)
-  both second = second ∙ ap (λ l. l ++ b) first ∙ append-assoc before a b
+module _ (before mid after a : List ℕ) (first : mid ≡ before ++ a) where
+  joins : (b : List ℕ) → after ≡ mid ++ b → after ≡ before ++ (a ++ b)
+  joins b second = second ∙ ap (λ l. l ++ b) first ∙ append-assoc before a b
 
-  pub put-then : (r : Result (Unit {0}) AllocError) → Put mid b r after → Put before (a ++ b) r after
-  put-then (Ok u) second = both second
-  put-then (Err x) second = (a ++ second .0, second .1 ∙ ap (λ l. l ++ second .0) first ∙ append-assoc before a (second .0))
+  pub put-then : (b : List ℕ) (r : Result (Unit {0}) AllocError) → Put mid b r after → Put before (a ++ b) r after
+  put-then b (Ok u) second = joins b second
+  put-then b (Err x) second = (a ++ second .0, joins (second .0) (second .1))
+
+  -- where there is no memory for the second, it does not matter what was to come
+  pub put-stopped : (more : List ℕ) (r : Result (Unit {0}) AllocError) → isErr r ≡ true → (part : List ℕ) × (after ≡ mid ++ part) → Put before more r after
+  put-stopped more (Ok u) stop second = absurd (grind arith)
+  put-stopped more (Err x) stop second = (a ++ second .0, joins (second .0) (second .1))
 
 -- ---- numbers, digit by digit
 
@@ -40,4 +44,38 @@ module _ (before mid after : List ℕ) (n : ℕ) (r : Result (Unit {0}) AllocErr
 
   pub put-last-digit : 10 ≤ n → n < 2 ^ 64 → mid ≡ before ++ decimal (n / 10) → Put before (decimal n) r after
   put-last-digit more fits front =
-      put-as before (decimal (n / 10) ++ ((48 + n % 10) ∷ [])) (decimal n) after r (sym (decimal-step n more fits)) (put-then before mid after (decimal (n / 10)) ((48 + n % 10) ∷ []) front r last)
+      put-as before (decimal (n / 10) ++ ((48 + n % 10) ∷ [])) (decimal n) after r (sym (decimal-step n more fits)) (put-then before mid after (decimal (n / 10)) front ((48 + n % 10) ∷ []) r last)
+
+-- ---- signed numbers
+
+signed-below : (z : ℤ) → ltZ z (pos 0) ≡ true → signed z ≡ 45 ∷ decimal (natAbs z)
+signed-below (pos n) below = absurd (grind arith)
+signed-below (negsuc n) below = refl
+
+signed-above : (z : ℤ) → ltZ z (pos 0) ≡ false → signed z ≡ decimal (natAbs z)
+signed-above (pos n) above = refl
+signed-above (negsuc n) above = absurd (grind arith)
+
+module _ (before mid after : List ℕ) (z : ℤ) (n : ℕ) (size : n ≡ natAbs z) (r : Result (Unit {0}) AllocError) (digits : Put mid (decimal n) r after) where
+  pub put-below : ltZ z (pos 0) ≡ true → mid ≡ before ++ (45 ∷ []) → Put before (signed z) r after
+  put-below below sign =
+      put-as before (45 ∷ decimal n) (signed z) after r (ap (λ m. 45 ∷ decimal m) size ∙ sym (signed-below z below)) (put-then before mid after (45 ∷ []) sign (decimal n) r digits)
+
+  pub put-above : ltZ z (pos 0) ≡ false → mid ≡ before → Put before (signed z) r after
+  put-above above same = put-as before (decimal n) (signed z) after r (ap decimal size ∙ sym (signed-above z above)) (subst (λ m. Put m (decimal n) r after) same digits)
+
+-- ---- fields
+
+spaced-more : (fields : List (List ℕ)) (field : List ℕ) → spaced (fields ++ (field ∷ [])) ≡ spaced fields ++ (space ∷ field)
+spaced-more [] field = ap (λ l. space ∷ l) (append-nil field)
+spaced-more (f ∷ fields) field = ap (λ l. space ∷ (f ++ l)) (spaced-more fields field) ∙ ap (λ l. space ∷ l) (sym (append-assoc f (spaced fields) (space ∷ field)))
+
+pub fields-more : (fields : List ℕ) (i : ℕ) → i < length fields → spaced (map decimal (take (i + 1) fields)) ≡ spaced (map decimal (take i fields)) ++ (space ∷ decimal (getD fields i 0))
+fields-more fields i below =
+    ap (λ l. spaced (map decimal l)) (take-more fields i 0 below)
+    ∙ ap spaced (map-append decimal (take i fields) (getD fields i 0 ∷ []))
+    ∙ spaced-more (map decimal (take i fields)) (decimal (getD fields i 0))
+
+pub put-pair : (before mid after a b : List ℕ) (r : Result (Unit {0}) AllocError) → mid ≡ before ++ (space ∷ a) → Put mid (space ∷ b) r after → Put before (spaced (a ∷ b ∷ [])) r after
+put-pair before mid after a b r first second =
+    put-as before (space ∷ (a ++ (space ∷ b))) (spaced (a ∷ b ∷ [])) after r (ap (λ l. space ∷ (a ++ (space ∷ l))) (sym (append-nil b))) (put-then before mid after (space ∷ a) first (space ∷ b) r second)
