@@ -22,7 +22,6 @@ use Rattle.swimlog.specs.declared.sizes.Sizes.{Sizes}
 use Rattle.swimlog.proofs.Earliest.{earliest-found, none-earlier}
 use Rattle.swimlog.proofs.Readings.{whole-record}
 
-
 pub bad-sizes : (bytes : List ℕ) → has-sizes bytes ≡ false → log-fault bytes ≡ Some BadSizes
 unfolding log-fault
 bad-sizes bytes e = rw e

@@ -7,11 +7,14 @@ use Rattle.std.specs.Results.{isErr}
 use Rattle.std.specs.declared.alloc.AllocError.{AllocError}
 use Rattle.std.specs.declared.result.Result.{Result}
 use Rattle.std.specs.declared.result.Result.the-variants.{Ok, Err}
-use Rattle.std.proofs.shelf.Lists.{take-more, map-append}
+use Rattle.std.proofs.shelf.Lists.{take-more, take-all, take-append-le, map-append}
+use lib.Chars.{codes}
 use lib.IntN.{ℤ, pos, negsuc, natAbs}
 use lib.ListN.{length, getD, take}
 use lib.Signed.{ltZ}
-use Rattle.swimlog.specs.Report.{Put, space, spaced}
+use Rattle.swimlog.specs.Report.{Put, Written, space, line-end, spaced, line, gate-line, gate-lines}
+use Rattle.tube.specs.declared.row.Row.{Row}
+use native.Mathlib.Numerals.{add-one}
 use Prim.Native.Nat.{ℕ, _+_, _/_, _%_, _^_, _≤_, _<_}
 use native.Mathlib.Nat.{mod-eq-of-lt}
 use Rattle.std.specs.Written.{decimal, signed}
@@ -33,6 +36,10 @@ module _ (before mid after a : List ℕ) (first : mid ≡ before ++ a) where
   pub put-stopped : (more : List ℕ) (r : Result (Unit {0}) AllocError) → isErr r ≡ true → (part : List ℕ) × (after ≡ mid ++ part) → Put before more r after
   put-stopped more (Ok u) stop second = absurd (grind arith)
   put-stopped more (Err x) stop second = (a ++ second .0, joins (second .0) (second .1))
+
+-- a line's first field, the others, and its end
+pub put-line-end : (before one two after first fields : List ℕ) (r : Result (Unit {0}) AllocError) → one ≡ before ++ first → two ≡ one ++ fields → Put two (line-end ∷ []) r after → Put before (first ++ (fields ++ (line-end ∷ []))) r after
+put-line-end before one two after first fields r p q end = put-then before one after first p (fields ++ (line-end ∷ [])) r (put-then one two after fields q (line-end ∷ []) r end)
 
 -- ---- numbers, digit by digit
 
@@ -66,16 +73,36 @@ module _ (before mid after : List ℕ) (z : ℤ) (n : ℕ) (size : n ≡ natAbs 
 
 -- ---- fields
 
-spaced-more : (fields : List (List ℕ)) (field : List ℕ) → spaced (fields ++ (field ∷ [])) ≡ spaced fields ++ (space ∷ field)
-spaced-more [] field = ap (λ l. space ∷ l) (append-nil field)
-spaced-more (f ∷ fields) field = ap (λ l. space ∷ (f ++ l)) (spaced-more fields field) ∙ ap (λ l. space ∷ l) (sym (append-assoc f (spaced fields) (space ∷ field)))
+pub spaced-append : (xs ys : List (List ℕ)) → spaced (xs ++ ys) ≡ spaced xs ++ spaced ys
+spaced-append [] ys = refl
+spaced-append (x ∷ xs) ys = ap (λ l. space ∷ (x ++ l)) (spaced-append xs ys) ∙ ap (λ l. space ∷ l) (sym (append-assoc x (spaced xs) (spaced ys)))
+
+spaced-one : (field : List ℕ) → spaced (field ∷ []) ≡ space ∷ field
+spaced-one field = ap (λ l. space ∷ l) (append-nil field)
 
 pub fields-more : (fields : List ℕ) (i : ℕ) → i < length fields → spaced (map decimal (take (i + 1) fields)) ≡ spaced (map decimal (take i fields)) ++ (space ∷ decimal (getD fields i 0))
 fields-more fields i below =
     ap (λ l. spaced (map decimal l)) (take-more fields i 0 below)
     ∙ ap spaced (map-append decimal (take i fields) (getD fields i 0 ∷ []))
-    ∙ spaced-more (map decimal (take i fields)) (decimal (getD fields i 0))
+    ∙ spaced-append (map decimal (take i fields)) (decimal (getD fields i 0) ∷ [])
+    ∙ ap (λ l. spaced (map decimal (take i fields)) ++ l) (spaced-one (decimal (getD fields i 0)))
 
 pub put-pair : (before mid after a b : List ℕ) (r : Result (Unit {0}) AllocError) → mid ≡ before ++ (space ∷ a) → Put mid (space ∷ b) r after → Put before (spaced (a ∷ b ∷ [])) r after
 put-pair before mid after a b r first second =
-    put-as before (space ∷ (a ++ (space ∷ b))) (spaced (a ∷ b ∷ [])) after r (ap (λ l. space ∷ (a ++ (space ∷ l))) (sym (append-nil b))) (put-then before mid after (space ∷ a) first (space ∷ b) r second)
+    put-as before (space ∷ (a ++ (space ∷ b))) (spaced (a ∷ b ∷ [])) after r (ap (λ l. space ∷ (a ++ l)) (sym (spaced-one b))) (put-then before mid after (space ∷ a) first (space ∷ b) r second)
+
+pub gate-lines-more : (gates : ℕ) (tube : List Row) (gate : ℕ) → gate-lines gates tube (gate + 1) ≡ gate-lines gates tube gate ++ gate-line gates tube gate
+gate-lines-more gates tube gate = ap (gate-lines gates tube) (add-one gate)
+
+-- ---- whole reports
+
+-- the parts that are put, as fields of a line
+pub kept-line : (digits mark : List ℕ) → codes "kept " ++ (digits ++ (space ∷ (mark ++ (line-end ∷ [])))) ≡ line (codes "kept") (digits ∷ mark ∷ [])
+kept-line digits mark =
+    ap (λ l. codes "kept " ++ l)
+    (ap (λ l. digits ++ (space ∷ (l ++ (line-end ∷ [])))) (sym (append-nil mark)) ∙ sym (append-assoc digits (space ∷ (mark ++ [])) (line-end ∷ [])))
+
+pub cut-back : (before more after cut : List ℕ) (n : ℕ) (r : Result (Unit {0}) AllocError) → n ≡ length before → isErr r ≡ true → Put before more r after → cut ≡ take n after → Written before more r cut
+cut-back before more after cut n (Ok u) same stop put at = absurd (grind arith)
+cut-back before more after cut n (Err e) same stop put at =
+    at ∙ ap (take n) (put .1) ∙ take-append-le n before (put .0) (omega arith) ∙ take-all n before (omega arith)

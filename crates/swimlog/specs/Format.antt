@@ -64,7 +64,7 @@ head-at bytes at =
       kind = byte-at bytes at;
       axis = byte-at bytes (at + 1);
       p = two-bytes-at bytes (at + 2);
-      q = two-bytes-at bytes (at + 4)
+      q = two-bytes-at bytes (at + 4);
     }
 
 abbrev pub body-at : List ℕ → ℕ → Body
@@ -75,7 +75,7 @@ body-at bytes at =
       b2 = number-at bytes (at + 8);
       b3 = number-at bytes (at + 12);
       b4 = number-at bytes (at + 16);
-      b5 = number-at bytes (at + 20)
+      b5 = number-at bytes (at + 20);
     }
 
 abbrev pub head-of : List ℕ → (index : ℕ) → Head

@@ -4,7 +4,9 @@ ghost use Rattle.swimlog.specs.Format.{head-start, body-start, log-length};
 use crate::sizes::Sizes;
 
 const SIZES_LENGTH: usize = 4;
+
 const HEAD_LENGTH: usize = 6;
+
 const BODY_LENGTH: usize = 24;
 
 pub(crate) fn head_start(index: u16) -> usize

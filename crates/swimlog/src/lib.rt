@@ -16,4 +16,5 @@ pub use fault::LogFault;
 pub use fault::RecordFault;
 pub use log::check_log;
 pub use report::Report;
+pub use report::write_report;
 pub use sizes::Sizes;

@@ -31,10 +31,7 @@ fn read_sizes(bytes: &[u8]) -> Result<Sizes, LogFault>
 }
 
 // What reading a record answered, with the record's place in the log beside its fault.
-fn numbered(
-    index: u16,
-    read: Result<Constraint, RecordFault>,
-) -> Result<Constraint, BadRecord>
+fn numbered(index: u16, read: Result<Constraint, RecordFault>) -> Result<Constraint, BadRecord>
     ensures { λ r. ⌜ r ≡ numbered index read ⌝ }
 {
     match read {

@@ -80,11 +80,7 @@ fn constraint_of(
     make(sizes, number, kind, head, body)
 }
 
-pub(crate) fn read_record(
-    bytes: &[u8],
-    sizes: Sizes,
-    index: u16,
-) -> Result<Constraint, RecordFault>
+pub(crate) fn read_record(bytes: &[u8], sizes: Sizes, index: u16) -> Result<Constraint, RecordFault>
     requires { ⌜ index < sizes .records ⌝ }
     ensures { λ r. ⌜ Reads (record-in (now (bytes .entry)) (sizes .gates) (sizes .records) index) r ⌝ }
 {

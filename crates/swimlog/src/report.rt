@@ -8,6 +8,7 @@ use tube::Row;
 
 mod writing;
 
+pub use writing::write_report;
 
 #[derive(Clone, Copy)]
 pub enum Report {
@@ -19,7 +20,10 @@ pub enum Report {
         tube: [Row; MAX_CELLS],
     },
     // No trajectory obeys it.
-    Empty { fault: Fault, calls: u64 },
+    Empty {
+        fault: Fault,
+        calls: u64,
+    },
     // It could not be read.
     Refused(LogFault),
 }

@@ -1,4 +1,4 @@
-use mathlib.Core.Path.{ap, _∙_}
+use mathlib.Core.Path.{ap}
 use native.Mathlib.Omega.{arith}
 use Rattle.std.specs.Of.Vec.{vec-items}
 use Rattle.swimlog.proofs.Puts.{put-digit, put-last-digit}
@@ -12,6 +12,7 @@ returns t c =
     let after = vec-items (c .put .last .out) in
     elim (c .if-n-ge10 .came) [
       | then-n-ge10·in-Continue-put-number w ↦
-          put-last-digit before mid after (c .args .n) (c .put .result) (c .put .ensures) (omega arith) (omega arith) (ap vec-items (w .out-is) ∙ w .in-Continue-put-number .ensures tt)
+          let front = w .in-Continue-put-number .ensures tt in
+          put-last-digit before mid after (c .args .n) (c .put .result) (c .put .ensures) (omega arith) (omega arith) (cc)
       | else-n-ge10 w ↦ put-digit before mid after (c .args .n) (c .put .result) (c .put .ensures) (omega arith) (ap vec-items (w .out-is))
     ]

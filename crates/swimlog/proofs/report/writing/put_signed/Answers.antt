@@ -1,7 +1,5 @@
-use mathlib.Core.Path.{_≡_, ap, _∙_}
-use mathlib.Core.Bool.{true, false}
-use lib.IntN.{pos, natAbs}
-use lib.Signed.{ltZ}
+use mathlib.Core.Path.{_≡_, ap}
+use lib.IntN.{natAbs}
 use Rattle.std.specs.Of.Vec.{vec-items}
 use Rattle.std.proofs.shelf.Signed.{toZ-ofZ}
 use Rattle.swimlog.proofs.Puts.{put-below, put-above}
