@@ -7,18 +7,19 @@ use native.Mathlib.Omega.{arith}
 use lib.Dec.{eqb}
 use lib.ListN.{length}
 use Rattle.std.proofs.shelf.Ways.{tells}
-use Rattle.std.specs.Results.{errPart}
+use Rattle.std.specs.Results.{Cases}
 use Rattle.std.specs.declared.option.Option.{Option}
 use Rattle.std.specs.declared.option.Option.the-variants.{Some, None}
 use Rattle.std.specs.declared.result.Result.{Result}
 use Rattle.std.specs.declared.result.Result.the-variants.{Ok, Err}
 use Rattle.swimlog.specs.Format.{gates-of, records-of, log-length}
-use Rattle.swimlog.specs.Logs.{record-fault, earliest-fault, has-sizes, log-fault, record-of, record-in, in-record, Sized, Checked}
+use Rattle.swimlog.specs.Logs.{record-fault, earliest-fault, has-sizes, log-fault, record-of, record-in, in-record, Sized, Checked, Blames}
 use Rattle.swimlog.specs.Records.{Said, Reads}
 use Rattle.swimlog.specs.declared.fault.LogFault.{LogFault}
 use Rattle.swimlog.specs.declared.fault.LogFault.the-variants.{BadSizes, BadLength}
 use Rattle.swimlog.specs.declared.fault.RecordFault.{RecordFault}
 use Rattle.swimlog.specs.declared.sizes.Sizes.{Sizes}
+use Rattle.swimlog.proofs.Blames.{blames}
 use Rattle.swimlog.proofs.Earliest.{earliest-found, none-earlier}
 use Rattle.swimlog.proofs.Readings.{whole-record}
 
@@ -53,6 +54,10 @@ module _ (bytes : List ℕ) (sizes : Sizes) (sized : has-sizes bytes ≡ true) (
 
 pub checked-refused : (bytes : List ℕ) (r : Result Sizes LogFault) (e f : LogFault) → r ≡ Err f → f ≡ e → log-fault bytes ≡ Some e → Checked bytes r
 checked-refused bytes r e f refused same fault = subst (Checked bytes) (sym refused) (fault ∙ ap Some (sym same))
+
+pub checked-blames : (bytes : List ℕ) (r : Result Sizes LogFault) → Checked bytes r → Cases r (λ _. Unit {0}) (Blames bytes)
+checked-blames bytes (Ok sizes) h = tt
+checked-blames bytes (Err e) h = blames bytes e h
 
 -- ---- a log that is not refused
 

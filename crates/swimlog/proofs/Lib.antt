@@ -3,3 +3,4 @@ pub mod Readings
 pub mod Earliest
 pub mod Checks
 pub mod Puts
+pub mod Blames

@@ -2,7 +2,7 @@
 use mathlib.Core.Path.{_≡_}
 use mathlib.Core.Bool.{Bool, true, false, cond, not, _&&_}
 use mathlib.Core.List.{List}
-use Prim.Native.Nat.{ℕ, zero, suc, _+_}
+use Prim.Native.Nat.{ℕ, zero, suc, _+_, _<_}
 use lib.Dec.{eqb, leb}
 use lib.ListN.{length}
 use Rattle.std.specs.Options.{orOther}
@@ -13,12 +13,13 @@ use Rattle.std.specs.declared.result.Result.the-variants.{Ok, Err}
 use Rattle.swimlog.specs.Format.{sizes-length, body-length, log-length, body-start, gates-of, records-of, head-of, body-of}
 use Rattle.swimlog.specs.Limits.{are-sizes}
 use Rattle.swimlog.specs.Records.{Said, record-constraint, record-says}
+use Rattle.tube.specs.Faults.{number-of as making-number}
 use Rattle.constraint.specs.declared.constraint.Constraint.{Constraint}
 use Rattle.swimlog.specs.declared.fault.BadRecord.{BadRecord}
 use Rattle.swimlog.specs.declared.fault.LogFault.{LogFault}
 use Rattle.swimlog.specs.declared.fault.LogFault.the-variants.{BadSizes, BadLength, InRecord}
 use Rattle.swimlog.specs.declared.fault.RecordFault.{RecordFault}
-use Rattle.swimlog.specs.declared.fault.RecordFault.the-variants.{CutOff}
+use Rattle.swimlog.specs.declared.fault.RecordFault.the-variants.{CutOff, UnknownKind, BadPlace, BadValue}
 use Rattle.swimlog.specs.declared.sizes.Sizes.{Sizes}
 
 abbrev pub in-record : (index : ℕ) → Result Said RecordFault → Option LogFault
@@ -72,3 +73,18 @@ ReadSizes bytes (Err e) = (has-sizes bytes ≡ false) × (e ≡ BadSizes)
 abbrev pub Checked : List ℕ → Result Sizes LogFault → Type 0
 Checked bytes (Ok sizes) = (log-fault bytes ≡ None) × Sized bytes sizes
 Checked bytes (Err e) = log-fault bytes ≡ Some e
+
+-- ---- what a fault of a whole log can be
+
+-- no record is cut off, and no constraint is refused but for its values
+abbrev pub Plain : RecordFault → Type 0
+Plain CutOff = ⊥
+Plain UnknownKind = Unit {0}
+Plain BadPlace = Unit {0}
+Plain (BadValue e) = making-number e ≡ 3
+
+-- the record that is to blame is one of the log's
+abbrev pub Blames : List ℕ → LogFault → Type 0
+Blames bytes BadSizes = Unit {0}
+Blames bytes BadLength = Unit {0}
+Blames bytes (InRecord b) = (b .index < records-of bytes) × Plain (b .fault)

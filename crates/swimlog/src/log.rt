@@ -2,11 +2,11 @@
 ghost use mathlib.Core.Path.{_≡_};
 ghost use Prim.Native.Nat.{_<_};
 ghost use lib.ListN.{length};
-ghost use Rattle.std.specs.Results.{errPart};
+ghost use Rattle.std.specs.Results.{errPart, Cases};
 ghost use Rattle.std.specs.declared.option.Option.the-variants.{None};
 ghost use Rattle.std.specs.declared.result.Result.the-variants.{Ok};
 ghost use Rattle.swimlog.specs.Format.{log-length};
-ghost use Rattle.swimlog.specs.Logs.{record-of, record-fault, log-fault, numbered, Sized, ReadSizes, Checked};
+ghost use Rattle.swimlog.specs.Logs.{record-of, record-fault, log-fault, numbered, Sized, ReadSizes, Checked, Blames};
 ghost use Rattle.swimlog.specs.Records.{Reads};
 use crate::fault::BadRecord;
 use crate::fault::LogFault;
@@ -51,7 +51,8 @@ fn check_record(bytes: &[u8], sizes: Sizes, index: u16) -> Result<(), LogFault>
 
 // Whether a log can be read, and its sizes if so. Nothing is written before this has looked at every byte.
 pub fn check_log(bytes: &[u8]) -> Result<Sizes, LogFault>
-    ensures { λ r. ⌜ Checked (now (bytes .entry)) r ⌝ }
+    ensures checked { λ r. ⌜ Checked (now (bytes .entry)) r ⌝ }
+    ensures blames { λ r. ⌜ Cases r (λ _. Unit {0}) (Blames (now (bytes .entry))) ⌝ }
 {
     let sizes = read_sizes(bytes)?;
     if bytes.len() != log_length(sizes) {
