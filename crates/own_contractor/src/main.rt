@@ -45,7 +45,13 @@ fn show(rt: &LibcRuntime) -> Result<(), AnyError> {
         return Err("no such number of rounds".into());
     };
     let mut moves = Net::new(rounds);
-    if moves.push(Constraint::Step(Step::new(2, 0, 1, 2)?)).is_err() || moves.push(Constraint::Bound(Bound::new(6, 1, 0, 65)?)).is_err() {
+    if moves
+        .push(Constraint::Step(Step::new(2, 0, 1, 2)?))
+        .is_err()
+        || moves
+            .push(Constraint::Bound(Bound::new(6, 1, 0, 65)?))
+            .is_err()
+    {
         return Err("no room in the net".into());
     }
     let either_time = Either {

@@ -53,9 +53,27 @@ fn union(first: Bound, second: Bound, answer: Answer, low: i32, high: i32) -> Re
 
 #[test]
 fn unions() -> Result<(), Fail> {
-    union(bound(1, 0, 2)?, bound(2, 5, 6)?, kept(Mark::Settled, 2), 0, 6)?;
-    union(bound(1, 20, 30)?, bound(2, 5, 6)?, kept(Mark::Settled, 2), 5, 6)?;
-    union(bound(1, 0, 2)?, bound(2, 20, 30)?, kept(Mark::Settled, 2), 0, 2)?;
+    union(
+        bound(1, 0, 2)?,
+        bound(2, 5, 6)?,
+        kept(Mark::Settled, 2),
+        0,
+        6,
+    )?;
+    union(
+        bound(1, 20, 30)?,
+        bound(2, 5, 6)?,
+        kept(Mark::Settled, 2),
+        5,
+        6,
+    )?;
+    union(
+        bound(1, 0, 2)?,
+        bound(2, 20, 30)?,
+        kept(Mark::Settled, 2),
+        0,
+        2,
+    )?;
     union(bound(1, 20, 30)?, bound(2, 40, 50)?, empty(1, 3, 2), 0, 10)
 }
 
@@ -105,7 +123,10 @@ fn ceilings() -> Result<(), Fail> {
         part: million,
     };
     check_eq(most.ceiling(), 1_000_000_000)?;
-    check_eq(most.contract(&mut [Row { low: 0, high: 9 }])?, kept(Mark::Settled, 1))?;
+    check_eq(
+        most.contract(&mut [Row { low: 0, high: 9 }])?,
+        kept(Mark::Settled, 1),
+    )?;
     let mut past = Both {
         first: most,
         second: bound(2, 0, 9)?,

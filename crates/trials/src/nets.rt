@@ -51,11 +51,20 @@ fn runs() -> Result<(), Fail> {
 fn edges() -> Result<(), Fail> {
     let mut one = Net::new(Rounds::new(1)?);
     one.push(Constraint::Bound(Bound::new(1, 0, 0, 4)?))?;
-    check_eq(one.contract(&mut [row(0, 9)])?, Answer::kept(Mark::Stopped, 1))?;
-    check_eq(one.contract(&mut [row(0, 4)])?, Answer::kept(Mark::Settled, 1))?;
+    check_eq(
+        one.contract(&mut [row(0, 9)])?,
+        Answer::kept(Mark::Stopped, 1),
+    )?;
+    check_eq(
+        one.contract(&mut [row(0, 4)])?,
+        Answer::kept(Mark::Settled, 1),
+    )?;
     let mut two = Net::new(Rounds::new(2)?);
     two.push(Constraint::Bound(Bound::new(1, 0, 0, 4)?))?;
-    check_eq(two.contract(&mut [row(0, 9)])?, Answer::kept(Mark::Settled, 2))
+    check_eq(
+        two.contract(&mut [row(0, 9)])?,
+        Answer::kept(Mark::Settled, 2),
+    )
 }
 
 #[test]
@@ -76,15 +85,24 @@ fn empties() -> Result<(), Fail> {
 #[test]
 fn holds_512_records() -> Result<(), Fail> {
     let mut net = Net::new(Rounds::new(1000)?);
-    check_eq(net.contract(&mut [row(0, 9)])?, Answer::kept(Mark::Settled, 0))?;
+    check_eq(
+        net.contract(&mut [row(0, 9)])?,
+        Answer::kept(Mark::Settled, 0),
+    )?;
     check(net.contract(&mut [row(9, 0)]).is_err())?;
     for _ in 0..512 {
         net.push(Constraint::Bound(Bound::new(1, 0, 0, 9)?))?;
     }
-    check(net.push(Constraint::Bound(Bound::new(2, 0, 0, 9)?)).is_err())?;
+    check(
+        net.push(Constraint::Bound(Bound::new(2, 0, 0, 9)?))
+            .is_err(),
+    )?;
     check_eq(net.len(), 512)?;
     check_eq(net.ceiling(), 512_000)?;
-    check_eq(net.contract(&mut [row(0, 9)])?, Answer::kept(Mark::Settled, 512))?;
+    check_eq(
+        net.contract(&mut [row(0, 9)])?,
+        Answer::kept(Mark::Settled, 512),
+    )?;
     net.clear();
     check_eq(net.len(), 0)?;
     check_eq(net.need(), 0)
