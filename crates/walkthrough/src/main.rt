@@ -11,6 +11,7 @@ use std::error::AnyError;
 use tube::Row;
 use tube::RowPartialEq;
 
+mod pile;
 mod proposals;
 mod swim;
 
@@ -34,6 +35,9 @@ fn tour(rt: &LibcRuntime) -> Result<(), AnyError> {
         "\nThe tube that is left after {calls} calls. It holds every path that obeys the records:"
     )?;
     show_tube(rt, &tube)?;
+    let mut fresh = [ANYWHERE; CELLS];
+    pile::show(rt, &records, &mut fresh)?;
+    show_tube(rt, &fresh)?;
     show_refusals(rt, &mut tube)?;
     show_contradiction(rt, &mut tube)?;
     let mut work = [ANYWHERE; CELLS];
@@ -120,9 +124,10 @@ fn show_changes(rt: &LibcRuntime, before: &[Row], after: &[Row]) -> Result<bool,
 }
 
 fn show_answer(rt: &LibcRuntime, answer: Answer) -> Result<(), AnyError> {
+    let calls = answer.calls;
     match answer.verdict {
-        Verdict::Kept(Mark::Settled) => rt.println("    kept, settled")?,
-        Verdict::Kept(Mark::Stopped) => rt.println("    kept, stopped")?,
+        Verdict::Kept(Mark::Settled) => println!(rt, "    kept, settled, calls {calls}")?,
+        Verdict::Kept(Mark::Stopped) => println!(rt, "    kept, stopped, calls {calls}")?,
         Verdict::Empty(fault) => {
             let number = fault.number;
             let cause = fault.cause;
