@@ -1,0 +1,2 @@
+pub mod Idles
+pub mod Values
