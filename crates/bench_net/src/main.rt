@@ -1,5 +1,7 @@
 // A benchmark: a full net of 510 records along a swim of 171 gates, used again and again on a fresh tube. It prints how many uses its records made;
 // a clock outside tells how long that took.
+#![tactic(auto)]
+
 use anyhow::anyhow;
 use constraint::{Bound, Constraint, Step};
 use contractor::{Contractor, Rounds};

@@ -1,4 +1,6 @@
 // The three constraints that a swim log turns into: a bound, a step and a range.
+#![tactic(auto)]
+
 mod answers;
 mod bound;
 mod cells;

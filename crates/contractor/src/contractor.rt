@@ -46,7 +46,7 @@ pub trait Contractor {
     // The checked use, for everybody: a refusal that leaves the table as it was, or the answer.
     fn contract(&mut self, table: &mut [Row]) -> Result<Answer, UseRefusal>
         ensures same { value self.new ≡ value self.old }
-        ensures* outcome { λ r. ⌜ record { result = r; table = table.new } ≡ outcome (value self.old) table.old ⌝ }
+        ensures outcome { record { result = result; table = table.new } ≡ outcome (value self.old) table.old }
     {
         match self.refusal(table) {
             Some(refusal) => Err(refusal),

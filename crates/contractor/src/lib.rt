@@ -1,4 +1,6 @@
 // What a contractor is: one interface, and what each implementation behind it owes; and the layers, which are contractors made of contractors.
+#![tactic(auto)]
+
 mod answer;
 mod build;
 mod contractor;

@@ -1,4 +1,6 @@
 // Reads many logs from one file and prints the report of each.
+#![tactic(auto)]
+
 ghost use Rattle.std.specs.Prelude.{◌≡◌, ◌+◌, true, false, take, drop, Some, None};
 ghost use Rattle.corpus.specs.Packs.{length_bytes, first_length, has_first};
 

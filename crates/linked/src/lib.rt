@@ -1,4 +1,6 @@
 // The survey for programs in other languages. Both buffers are the caller's, and nothing is kept between calls.
+#![tactic(auto)]
+
 ghost use Rattle.std.specs.Prelude.{◌≡◌, ◌≤◌, length};
 ghost use Rattle.survey.specs.Rooms.{page_length};
 ghost use Rattle.survey.specs.Surveys.{printed};

@@ -1,4 +1,6 @@
 // A net of records that are used again as long as the cells that they mention become narrower.
+#![tactic(auto)]
+
 ghost use Rattle.net.specs.Nets.{NetsKeep};
 ghost use Rattle.net.specs.Piles.{PilesKeep};
 

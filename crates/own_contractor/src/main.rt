@@ -1,4 +1,6 @@
 // A contractor of one's own, written outside the library and piled with the library's contractors under its layers.
+#![tactic(auto)]
+
 use anyhow::anyhow;
 use constraint::{Bound, Constraint, Step};
 use contractor::{Both, Contractor, Either, Mark, Repeat, Rounds, Verdict};

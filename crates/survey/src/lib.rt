@@ -1,4 +1,6 @@
 // The survey of a swim: from the bytes of its log to the report that is printed.
+#![tactic(auto)]
+
 mod examples;
 mod page;
 mod printing;

@@ -1,4 +1,6 @@
 // The swim log, from its bytes to its records, the two nets that they fill, and the report that is printed.
+#![tactic(auto)]
+
 mod fault;
 mod field;
 mod filling;

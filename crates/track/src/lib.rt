@@ -1,4 +1,6 @@
 // A track: a committed tube and proposals to narrow it, under an allowance of calls.
+#![tactic(auto)]
+
 mod answer;
 mod emptied;
 mod proposal;

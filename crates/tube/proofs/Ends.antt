@@ -1,6 +1,5 @@
 -- The test of an interval's ends, taken apart and put together. Assumes nothing.
 use Rattle.std.proofs.Common.{◌≡◌, true, ℤ, pos, neg_ℤ, ◌≤ℤ◌, arith}
-use lib.Signed.{le_z}
 use Rattle.std.proofs.lemmas.Int.{ints}
 use Rattle.tube.specs.Spans.{reach, spans}
 

@@ -1,5 +1,5 @@
 -- Trajectories in tubes, cell by cell. Assumes nothing.
-use Rattle.std.proofs.Common.{◌≡◌, ℕ, zero, suc, ◌<◌, List, [], ◌∷◌, length, set, refl, ap, le_of_suc-le-suc, not-suc-le-zero, arith}
+use Rattle.std.proofs.Common.{◌≡◌, ℕ, zero, suc, ◌<◌, List, [], ◌∷◌, length, set, refl, ap, le_of_suc-le-suc, not-suc-le-zero}
 use lib.Signed.{≤ℤ_refl}
 use Rattle.tube.specs.Tubes.{Trajectory, row, In, Lies, Inside, single, cell, value_at}
 use Rattle.tube.specs.declared.row.Row.{Row}

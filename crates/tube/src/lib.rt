@@ -1,4 +1,6 @@
 // Tubes in whole millimetres: the rows of a table, the intervals that they may be, and the test that a table is a tube.
+#![tactic(auto)]
+
 mod fault;
 mod interval;
 mod row;

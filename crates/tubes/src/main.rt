@@ -1,4 +1,6 @@
 // Reads a swim log from standard input and writes its report to standard output.
+#![tactic(auto)]
+
 use std::io;
 use std::io::{Read, Write};
 use survey::{input_limit, write_survey};

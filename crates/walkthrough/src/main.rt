@@ -1,4 +1,6 @@
 // A tour of the library for a reader who has never seen it: a short swim along a quay wall, narrowed by hand.
+#![tactic(auto)]
+
 use constraint::{Bound, Constraint};
 use contractor::{Answer, Contractor, Mark, Verdict};
 use tube::Row;

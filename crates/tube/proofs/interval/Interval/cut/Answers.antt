@@ -4,10 +4,10 @@ use Rattle.tube.specs.Tubes.{cut}
 use Rattle.tube.proofs.Ends.{spanned, spans_from}
 use Rattle.tube.proofs.interval.Interval.cut.Goals as goal
 
-pub invariant-of-result : goal.invariant-of-result
-invariant-of-result c =
+pub invariant_of-result : goal.invariant_of-result
+invariant_of-result c =
     let s = spanned c.args.self.low c.args.self.high c.args.self.spanned in
-    (spans_from (to_z w32 (of_z w32 c.max-low.result)) (to_z w32 (of_z w32 c.min-high.result)) (record { floor = omega (arith, ints, clamps); ordered = omega (arith, ints, clamps); roof = omega (arith, ints, clamps) }), tt)
+    record { spanned = spans_from (to_z w32 (of_z w32 c.max-low.result)) (to_z w32 (of_z w32 c.min-high.result)) (record { floor = omega (arith, ints, clamps); ordered = omega (arith, ints, clamps); roof = omega (arith, ints, clamps) }) }
 
 pub returns-then-low-high : goal.returns-then-low-high
 unfolding cut
