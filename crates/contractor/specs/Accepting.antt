@@ -1,11 +1,11 @@
 -- When a use is not refused, taken apart and put together. Assumes nothing.
-use Rattle.std.specs.Prelude.{◌≡◌, ℕ, ◌≤◌, true, List, length}
+use Rattle.std.specs.Prelude.{◌≡◌, ◌≤◌, true, List, length}
 use Rattle.std.proofs.Common.{sym, subst, arith}
 use Rattle.std.proofs.lemmas.Bool.Decides.{nat_tests}
 use Rattle.tube.specs.Tubes.{is_tube, Inside}
 use Rattle.tube.specs.declared.row.Row.{Row}
 use Rattle.tube.proofs.Insides.{inside_length}
-use Rattle.contractor.specs.Contractors.{Value, Narrowed, Accepted, Fair, Keeps, refusal}
+use Rattle.contractor.specs.Contractors.{Value, Narrowed, Accepted, Fair, Keeps}
 use Rattle.contractor.specs.Refusals.{most_layers, most_calls}
 
 -- what is known of a contractor and a tube that it is not refused on

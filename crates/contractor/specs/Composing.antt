@@ -1,12 +1,12 @@
 -- A composition keeps the meaning where its parts do. Assumes nothing.
-use Rattle.std.specs.Prelude.{◌≡◌, ℕ, ◌+◌, true, ◌&&◌, List, length, refl}
+use Rattle.std.specs.Prelude.{◌≡◌, ℕ, ◌+◌, true, List, length, refl}
 use Rattle.std.proofs.Common.{sym, subst, ⊎_elim, arith}
 use Rattle.std.proofs.lemmas.Bool.{and_parts, cases_Bool}
 use Rattle.tube.specs.Tubes.{Trajectory, Lies, Inside, single}
 use Rattle.tube.specs.declared.row.Row.{Row}
 use Rattle.tube.proofs.Trajectories.{in_single}
 use Rattle.contractor.specs.Answers.{IsKept, IsEmpty, Placed, kept, emptied}
-use Rattle.contractor.specs.Contractors.{Value, Narrowed, Fair, Keeps}
+use Rattle.contractor.specs.Contractors.{Value, Fair, Keeps}
 use Rattle.contractor.specs.Layers.{leaving}
 use Rattle.contractor.specs.Compositions.{first_digit, second_digit, second_answer, after_first, both}
 use Rattle.contractor.specs.declared.answer.Fault.{Fault}

@@ -1,16 +1,16 @@
 -- What every layer's proof uses: the figures of its parts, and faults passed up. Assumes nothing.
-use Rattle.std.specs.Prelude.{◌≡◌, ℕ, suc, ◌+◌, ◌*◌, ◌^◌, ◌<◌, ◌≤◌, Bool, List, length}
+use Rattle.std.specs.Prelude.{ℕ, suc, ◌+◌, ◌<◌, ◌≤◌, Bool, List}
 use Rattle.std.proofs.Common.{pow-suc, arith}
 use Rattle.std.proofs.Math.Nat.{pow-le-pow_right}
 use Rattle.tube.specs.Tubes.{Trajectory}
 use Rattle.tube.specs.declared.row.Row.{Row}
 use Rattle.contractor.specs.Answers.{Placed}
 use Rattle.contractor.specs.Contractors.{Value, Narrowed, Accepted, Fair, Keeps}
-use Rattle.contractor.specs.Layers.{above, capped, passed_up, over_two}
+use Rattle.contractor.specs.Layers.{passed_up, over_two}
 use Rattle.contractor.specs.declared.answer.Fault.{Fault}
 use Rattle.contractor.specs.declared.answer.Verdict.{Verdict}
 use Rattle.contractor.specs.declared.answer.Verdict.TheVariants.{Kept, Empty}
-use Rattle.contractor.specs.Accepting.{Accepts, accepted_facts, accepted_from}
+use Rattle.contractor.specs.Accepting.{accepted_facts, accepted_from}
 
 -- a fault that is passed up has a path of one digit more
 pub passed_placed : (digit part layer n : ℕ) (f : Fault) → digit < 8 → part < layer → Placed part n (Empty f) → Placed layer n (Empty (passed_up digit f))

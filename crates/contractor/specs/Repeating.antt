@@ -1,6 +1,6 @@
 -- A repetition keeps the meaning where its part does. Assumes nothing.
 use Rattle.std.specs.Prelude.{◌≡◌, ℕ, zero, suc, ◌+◌, ◌-◌, ◌*◌, ◌<◌, ◌≤◌, Bool, true, false, List, length, Some, None, Option, refl}
-use Rattle.std.proofs.Common.{sym, ap, subst, ◌∙◌, suc-mul, not-suc-le-zero, arith}
+use Rattle.std.proofs.Common.{sym, ap, subst, suc-mul, not-suc-le-zero, arith}
 use Rattle.tube.specs.declared.row.Row.{Row}
 use Rattle.tube.proofs.Insides.{inside_same}
 use Rattle.contractor.specs.Answers.{IsEmpty}
@@ -11,7 +11,7 @@ use Rattle.contractor.specs.Repetitions.{repeat_digit, same_rows, round_end, Rou
 use Rattle.contractor.specs.declared.answer.Answer.{Answer}
 use Rattle.contractor.specs.declared.answer.Verdict.{Verdict}
 use Rattle.contractor.specs.declared.answer.Verdict.TheVariants.{Kept, Empty}
-use Rattle.contractor.specs.Accepting.{Accepts, accepted_facts, accepted_from, accepted_inside}
+use Rattle.contractor.specs.Accepting.{accepted_facts, accepted_from, accepted_inside}
 use Rattle.contractor.specs.Layering.{passed_placed}
 use Rattle.contractor.specs.Sequences.{Sound, sound_after, fair_from}
 

@@ -1,12 +1,12 @@
 -- A union keeps the meaning where its parts do. Assumes nothing.
-use Rattle.std.specs.Prelude.{◌≡◌, ℕ, ◌+◌, ◌||◌, List, length}
+use Rattle.std.specs.Prelude.{◌≡◌, ℕ, ◌+◌, List, length}
 use Rattle.std.proofs.Common.{sym, ◌∙◌, ⊎_elim, arith}
 use Rattle.std.proofs.lemmas.Bool.{or_cases, or_parts}
 use Rattle.tube.specs.declared.row.Row.{Row}
 use Rattle.tube.proofs.Insides.{inside_same, inside_length}
 use Rattle.tube.proofs.Trajectories.{lies_wider}
 use Rattle.contractor.specs.Answers.{Placed}
-use Rattle.contractor.specs.Contractors.{Value, Narrowed, Fair, Keeps}
+use Rattle.contractor.specs.Contractors.{Value, Fair, Keeps}
 use Rattle.contractor.specs.Layers.{passed_up, leaving}
 use Rattle.contractor.specs.Unions.{either_digit, named_fault, hulls, united_by, either}
 use Rattle.contractor.specs.declared.answer.Fault.{Fault}

@@ -16,4 +16,4 @@ pub loop-preserved : goal.loop-preserved
 loop-preserved g c =
     let going = c.loop.invariant.1 in
     let more : c.loop.counter < c.args.self.now.rounds.count = omega arith in
-    (c.loop.invariant.0, going_more _ _ _ _ _ _ _ going more _ _ _ c.round.ensures.round (g.met.C.Contractor.keeps _) c.in-default.is _ c.round.ensures.same)
+    (c.loop.invariant.0, going_more _ _ _ _ _ _ _ going more _ _ _ c.round.ensures.round (g.met.C.Contractor.keeps _) c.in_default.is _ c.round.ensures.same)
