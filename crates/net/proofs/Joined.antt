@@ -1,6 +1,6 @@
 -- The queue while records join it, as the invariant of the loop that lets them. Assumes nothing.
 use Rattle.std.proofs.Common.{◌≡◌, ℕ, ◌+◌, ◌<◌, ◌≤◌, true, false, eqb, List, [], ◌∷◌, ◌++◌, length, drop, sym, refl, ap, ◌∙◌, append_assoc, append-nil, arith}
-use Rattle.std.proofs.lemmas.Bool.{cond_true, cond-false, cond_both, ne_eqb}
+use Rattle.std.proofs.lemmas.Bool.{cond-true, cond-false, cond_both, ne_eqb}
 use Rattle.net.specs.Nets.{among, waits, joining}
 use Rattle.net.specs.Chains.{least_after}
 use Rattle.net.specs.Queues.{joined_by}
@@ -24,7 +24,7 @@ module _ (css : List (List ℕ)) (cs q : List ℕ) (i : ℕ) (s : List ℕ) (inv
     -- the record at the least cursor waits already
     joined_waits : waits j s ≡ true → Joined css cs q (j + 1) s
     joined_waits w =
-        let turn = joining_turn css cs q i inv.within j e l ∙ cond_true (waits j q) _ _ (sym (inv.waiting j from) ∙ w) in
+        let turn = joining_turn css cs q i inv.within j e l ∙ cond-true (waits j q) _ _ (sym (inv.waiting j from) ∙ w) in
         record {
           within = omega arith;
           rest = ap (λ r. s ++ r) (sym turn) ∙ inv.rest;

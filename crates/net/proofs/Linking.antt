@@ -1,7 +1,7 @@
 -- The chains while they are built, from the last record to the first. Assumes nothing.
 use Rattle.std.proofs.Common.{◌≡◌, ℕ, zero, suc, ◌+◌, ◌<◌, ◌≤◌, Bool, true, false, cond, ◌||◌, eqb, ◌≢◌, List, [], ◌∷◌, map, length, get_or, take, set, replicate, sym, refl, ap, ◌∙◌, subst, ⊎_elim, le_of_suc-le-suc, not-suc-le-zero, arith}
 use Rattle.std.proofs.lemmas.List.{get_or-set_same, get_or-set_other, get_or-replicate, length-set, length-replicate, length-map, length-take-le, get_or-map, get_or-take, ext_get_or}
-use Rattle.std.proofs.lemmas.Bool.{cases_eq, cond_true, cond-false, eq-eqb, eqb-true, ne_eqb, or_cases, false≢true}
+use Rattle.std.proofs.lemmas.Bool.{cases_eq, cond-true, cond-false, eq-eqb, eqb-true, ne_eqb, or_cases, false≢true}
 use Rattle.tube.specs.Tubes.{most_cells}
 use Rattle.constraint.specs.Mentions.{cell_slots}
 use Rattle.constraint.specs.declared.constraint.Constraint.{Constraint}
@@ -34,7 +34,7 @@ after_here (cs ∷ css) c (suc i) l =
 get_d_set : (heads : List ℕ) (d i c : ℕ) → d < length heads → get_or (set heads d i) c 0 ≡ cond (eqb c d) i (get_or heads c 0)
 get_d_set heads d i c l =
     ⊎_elim
-    (λ e. ap (λ k. get_or (set heads d i) k 0) e ∙ get_or-set_same heads d i 0 l ∙ sym (cond_true _ _ _ (eq-eqb c d e)))
+    (λ e. ap (λ k. get_or (set heads d i) k 0) e ∙ get_or-set_same heads d i 0 l ∙ sym (cond-true _ _ _ (eq-eqb c d e)))
     (λ ne. get_or-set_other heads d c i 0 ne ∙ sym (cond-false _ _ _ (ne_eqb c d ne)))
     (cases_eq c d)
 

@@ -2,7 +2,7 @@
 use Rattle.std.proofs.Common.{◌≡◌, ℕ, zero, suc, ◌+◌, ◌-◌, ◌%◌, ◌<◌, ◌≤◌, Bool, true, false, cond, ◌||◌, eqb, ◌≢◌, List, [], ◌∷◌, ◌++◌, length, get_or, set, replicate, sym, refl, ap, ◌∙◌, subst, ap₂, ⊎_elim, arith, below_more}
 use Rattle.std.proofs.ByRecursion.{All-push}
 use Rattle.std.proofs.lemmas.List.{get_or-set_same, get_or-set_other, length-set}
-use Rattle.std.proofs.lemmas.Bool.{cases_Bool, cases_eq, cases_lt, cond_true, cond-false, eq-eqb, ne_eqb, or_right}
+use Rattle.std.proofs.lemmas.Bool.{cases_Bool, cases_eq, cases_lt, cond-true, cond-false, eq-eqb, ne_eqb, or_right}
 use Rattle.contractor.specs.declared.answer.Mark.TheVariants.{Settled, Stopped}
 use Rattle.net.specs.Nets.{waits, positions, rest_mark, most_records}
 use Rattle.net.specs.Queues.{queue_list, queue_of, Apart, Below, Marked, Queued, joined_by}
@@ -105,7 +105,7 @@ with_last w i = record { ring = set w.ring ((w.head + w.count) % most_records) i
 
 module _ (w : Waiting) (known : Queued w) (i : ℕ) (placed : i < most_records) where
   pub waits_already : get_or w.marks i false ≡ true → queue_of w ≡ joined_by i (queue_of w)
-  waits_already m = sym (cond_true (waits i (queue_of w)) _ _ (sym (known.marked i placed) ∙ m))
+  waits_already m = sym (cond-true (waits i (queue_of w)) _ _ (sym (known.marked i placed) ∙ m))
 
   module _ (m : get_or w.marks i false ≡ false) where
     waits_not : waits i (queue_of w) ≡ false

@@ -2,7 +2,7 @@
 use Rattle.std.specs.Prelude.{◌≡◌, ℕ, zero, suc, ◌+◌, ◌<◌, ◌≤◌, Bool, true, false, cond, not, List, [], ◌∷◌, ◌++◌, length, nat_lt, slice_index_or, refl}
 use Rattle.std.proofs.Common.{sym, ap, ◌∙◌, ⊎_elim, not-suc-le-zero, le_of_suc-le-suc, arith}
 use Rattle.std.proofs.Math.Nat.{suc-le-suc_iff}
-use Rattle.std.proofs.lemmas.Bool.{cases_lt, both_ways, cond_true, cond-false, cond_both, lt-ltb, le-ltb}
+use Rattle.std.proofs.lemmas.Bool.{cases_lt, both_ways, cond-true, cond-false, cond_both, lt-ltb, le-ltb}
 use Rattle.tube.specs.Tubes.{cell}
 use Rattle.net.specs.Nets.{among}
 use Rattle.net.specs.Chains.{after}
@@ -54,7 +54,7 @@ pub after_push_found : (css : List (List ℕ)) (cs : List ℕ) (c from : ℕ) �
 after_push_found [] cs c from l = absurd (not-suc-le-zero l)
 after_push_found (x ∷ css) cs c zero l =
     cond_both (among c x) 0 (suc (after css c 0)) (λ n. n < suc (length css) → cond (among c x) 0 (suc (after (css ++ cs ∷ []) c 0)) ≡ n)
-    (λ e _. cond_true (among c x) _ _ e)
+    (λ e _. cond-true (among c x) _ _ e)
     (λ e k. cond-false (among c x) _ _ e ∙ ap suc (after_push_found css cs c 0 (le_of_suc-le-suc k)))
     l
 after_push_found (x ∷ css) cs c (suc from) l = ap suc (after_push_found css cs c from (le_of_suc-le-suc l))
@@ -77,6 +77,6 @@ after_push_none (x ∷ css) cs c (suc from) h l = ap suc (after_push_none css cs
 pub after_push : (css : List (List ℕ)) (cs : List ℕ) (c from : ℕ) → from ≤ length css → after (css ++ cs ∷ []) c from ≡ cond (nat_lt (after css c from) (length css)) (after css c from) (cond (among c cs) (length css) (length css + 1))
 after_push css cs c from h =
     ⊎_elim
-    (λ l. after_push_found css cs c from l ∙ sym (cond_true _ _ _ (lt-ltb _ _ l)))
+    (λ l. after_push_found css cs c from l ∙ sym (cond-true _ _ _ (lt-ltb _ _ l)))
     (λ l. after_push_none css cs c from h l ∙ sym (cond-false _ _ _ (le-ltb _ _ l)))
     (cases_lt (after css c from) (length css))

@@ -3,7 +3,7 @@ use Rattle.std.specs.Prelude.{◌≡◌, ℕ, zero, suc, ◌+◌, ◌-◌, ◌<�
 use Rattle.std.proofs.Common.{sym, ap, subst, ◌∙◌, ⊎_elim, add-zero, arith}
 use Rattle.std.proofs.Math.Nat.{suc-le-suc_iff}
 use Rattle.std.proofs.lemmas.List.{get_or-drop, drop-drop, at_drop_more, at_drop_all}
-use Rattle.std.proofs.lemmas.Bool.{cases_Bool, cases_lt, cases_eq, both_ways, false≢true, cond_true, cond-false, cond_both, eq-eqb, eqb-true, ne_eqb, or_parts, or_from, or_left, or_right, or_cases, and_left}
+use Rattle.std.proofs.lemmas.Bool.{cases_Bool, cases_lt, cases_eq, both_ways, false≢true, cond-true, cond-false, cond_both, eq-eqb, eqb-true, ne_eqb, or_parts, or_from, or_left, or_right, or_cases, and_left}
 use Rattle.net.specs.Nets.{some_cell, among, waits, joining}
 use Rattle.net.specs.Chains.{after, least_after, cursor, chosen}
 use Rattle.net.specs.Afters.{after_length, after_from, after_skips, after_finds, after_same}
@@ -68,22 +68,22 @@ module _ (css : List (List ℕ)) (counts : Bool) (c : ℕ) where
   pub cursor_same : (i j : ℕ) → i ≤ j → j ≤ cursor css counts c i → cursor css counts c j ≡ cursor css counts c i
   cursor_same i j h =
       cond_both counts (after css c i) (length css) (λ n. j ≤ n → cursor css counts c j ≡ n)
-      (λ e l. cond_true counts _ _ e ∙ after_same css c i j h l)
+      (λ e l. cond-true counts _ _ e ∙ after_same css c i j h l)
       (λ e l. cond-false counts _ _ e)
 
   pub cursor_finds : (i : ℕ) → cursor css counts c i < length css → among c (slice_index_or css (cursor css counts c i) []) ≡ true
   cursor_finds i l =
-      let e = cond_true counts (after css c i) (length css) (cursor_counts i l) in
+      let e = cond-true counts (after css c i) (length css) (cursor_counts i l) in
       ap (λ k. among c (slice_index_or css k [])) e ∙ after_finds css c i (omega arith)
 
   -- past a position it moves on along its chain if it stands there, and else stays
   cursor_moves : (i j : ℕ) → cursor css counts c i ≡ j → j < length css → cursor css counts c (j + 1) ≡ after css c (j + 1)
-  cursor_moves i j e l = cond_true counts _ _ (cursor_counts i (omega arith))
+  cursor_moves i j e l = cond-true counts _ _ (cursor_counts i (omega arith))
 
   pub cursor_next : (i j : ℕ) → i ≤ j → j ≤ cursor css counts c i → j < length css → cursor css counts c (j + 1) ≡ cond (cursor css counts c i == j) (after css c (j + 1)) (cursor css counts c i)
   cursor_next i j h l within =
       ⊎_elim
-      (λ e. cursor_moves i j e within ∙ sym (cond_true _ _ _ (eq-eqb _ _ e)))
+      (λ e. cursor_moves i j e within ∙ sym (cond-true _ _ _ (eq-eqb _ _ e)))
       (λ ne. cursor_same i (j + 1) (omega arith) (omega arith) ∙ sym (cond-false _ _ _ (ne_eqb _ _ ne)))
       (cases_eq (cursor css counts c i) j)
 

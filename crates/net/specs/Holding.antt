@@ -2,7 +2,7 @@
 use Rattle.std.specs.Prelude.{◌≡◌, ℕ, ◌+◌, ◌<◌, ◌≤◌, max, true, List, [], ◌∷◌, length, take, drop, Ok, Err, slice_index_or, slice_set}
 use Rattle.std.proofs.Common.{sym, ap, ap₂, ◌∙◌, arith}
 use Rattle.std.proofs.lemmas.List.{length-map, length-take-le, take_more_set, at_drop_more, at_drop_all}
-use Rattle.std.proofs.lemmas.Bool.{cond_true, cond-false, lt-ltb, le-ltb}
+use Rattle.std.proofs.lemmas.Bool.{cond-true, cond-false, lt-ltb, le-ltb}
 use Rattle.std.proofs.lemmas.Bool.Decides.{nat_tests}
 use Rattle.tube.specs.declared.row.Row.{Row}
 use Rattle.contractor.specs.Contractors.{Keeps}
@@ -29,10 +29,10 @@ module _ (table : List Constraint) (count : ℕ) (sized : length table ≡ most_
 
   -- another does
   pub push_done : count < most_records → Ok tt ≡ push_answer (take count table)
-  push_done l = sym (cond_true _ _ _ (lt-ltb (length (take count table)) most_records (omega (arith, held_count))))
+  push_done l = sym (cond-true _ _ _ (lt-ltb (length (take count table)) most_records (omega (arith, held_count))))
 
   pub push_last : count < most_records → (k : Constraint) → take (count + 1) (slice_set table count k) ≡ pushed (take count table) k
-  push_last l k = take_more_set table count k (omega arith) ∙ sym (cond_true _ _ _ (lt-ltb (length (take count table)) most_records (omega (arith, held_count))))
+  push_last l k = take_more_set table count k (omega arith) ∙ sym (cond-true _ _ _ (lt-ltb (length (take count table)) most_records (omega (arith, held_count))))
 
   pub parts_count : length (parts (take count table)) ≡ count
   parts_count = length-map (take count table) part ∙ held_count

@@ -1,6 +1,6 @@
 use Rattle.std.proofs.Common.{sym, refl, ap, ◌∙◌, arith, w32, rules}
 use Rattle.std.proofs.lemmas.Int.{ints, to_z-of_z}
-use Rattle.std.proofs.lemmas.Bool.{cond_true, cond-false}
+use Rattle.std.proofs.lemmas.Bool.{cond-true, cond-false}
 use Rattle.tube.specs.Intervals.{row_of}
 use Rattle.tube.specs.Tubes.{contains}
 use Rattle.constraint.specs.Hulls.{square, least_square}
@@ -12,7 +12,7 @@ pub returns-then-contains : goal.returns-then-contains
 unfolding least_square
 returns-then-contains c =
     let inside = ap (contains (row_of c.args.cell)) (sym (to_z-of_z w32 c.args.beacon c.ranges.beacon)) ∙ sym c.contains.ensures ∙ c.if-contains.true in
-    squared_as _ _ _ _ (sym (cond_true _ _ _ inside)) refl (record { is = refl; above = omega (arith, ints); below = omega (arith, ints) })
+    squared_as _ _ _ _ (sym (cond-true _ _ _ inside)) refl (record { is = refl; above = omega (arith, ints); below = omega (arith, ints) })
 
 pub returns-else-contains : goal.returns-else-contains
 unfolding least_square
