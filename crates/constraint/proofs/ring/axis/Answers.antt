@@ -7,10 +7,10 @@ use Rattle.constraint.specs.Makings.{is_coordinate}
 use Rattle.constraint.proofs.Rings.{same_ring}
 use Rattle.constraint.proofs.ring.axis.Goals as goal
 
-pub within-ring-requires : goal.within-ring-requires
-within-ring-requires c =
-    let l = c.axis-limits-limits.result in
-    let k = c.axis-limits-limits.ensures in
+pub within_ring-requires : goal.within_ring-requires
+within_ring-requires c =
+    let l = c.axis_limits-limits.result in
+    let k = c.axis_limits-limits.ensures in
     let inner_fits : SFits w64 l.inner = search rules in
     let outer_fits : SFits w64 l.outer = search rules in
     record {
@@ -22,8 +22,8 @@ within-ring-requires c =
 pub returns : goal.returns
 unfolding inner_limit outer_limit axis_row
 returns c =
-    let l = c.axis-limits-limits.result in
-    let k = c.axis-limits-limits.ensures in
+    let l = c.axis_limits-limits.result in
+    let k = c.axis_limits-limits.ensures in
     let inner_fits : SFits w64 l.inner = search rules in
     let outer_fits : SFits w64 l.outer = search rules in
-    c.within-ring.ensures ∙ same_ring (row_of c.args.own) _ _ _ _ _ _ (to_z-of_z w64 l.inner inner_fits ∙ k.inner_is ∙ ap₂ (λ n b. inner_limit n (row_of c.args.other) b) (to_z-of_z w32 c.args.nearest c.ranges.nearest) (to_z-of_z w32 c.args.other_beacon c.ranges.other_beacon)) (to_z-of_z w64 l.outer outer_fits ∙ k.outer_is ∙ ap₂ (λ f b. outer_limit f (row_of c.args.other) b) (to_z-of_z w32 c.args.farthest c.ranges.farthest) (to_z-of_z w32 c.args.other_beacon c.ranges.other_beacon)) (to_z-of_z w32 c.args.own_beacon c.ranges.own_beacon)
+    c.within_ring.ensures ∙ same_ring (row_of c.args.own) _ _ _ _ _ _ (to_z-of_z w64 l.inner inner_fits ∙ k.inner_is ∙ ap₂ (λ n b. inner_limit n (row_of c.args.other) b) (to_z-of_z w32 c.args.nearest c.ranges.nearest) (to_z-of_z w32 c.args.other_beacon c.ranges.other_beacon)) (to_z-of_z w64 l.outer outer_fits ∙ k.outer_is ∙ ap₂ (λ f b. outer_limit f (row_of c.args.other) b) (to_z-of_z w32 c.args.farthest c.ranges.farthest) (to_z-of_z w32 c.args.other_beacon c.ranges.other_beacon)) (to_z-of_z w32 c.args.own_beacon c.ranges.own_beacon)

@@ -4,8 +4,8 @@ use Rattle.constraint.specs.Hulls.{square}
 use Rattle.constraint.specs.Squares.{coordinate, squared_as}
 use Rattle.constraint.proofs.ring.distance_squared.Goals as goal
 
-pub square-of-requires : goal.square-of-requires
-square-of-requires c =
+pub square_of-requires : goal.square_of-requires
+square_of-requires c =
     let v = coordinate c.args.v c.requires.v in
     let b = coordinate c.args.beacon c.requires.beacon in
     record { above = omega (arith, ints); below = omega (arith, ints) }
@@ -14,4 +14,4 @@ pub returns : goal.returns
 returns c =
     let v = coordinate c.args.v c.requires.v in
     let b = coordinate c.args.beacon c.requires.beacon in
-    squared_as _ _ _ _ (ap square (omega (arith, ints))) (omega (arith, ints)) c.square-of.ensures
+    squared_as _ _ _ _ (ap square (omega (arith, ints))) (omega (arith, ints)) c.square_of.ensures

@@ -9,8 +9,8 @@ unfolding greatest_square
 returns c =
     greater _ _ _ _
     (squared_as _ _ _ _ (ap square (held_difference w32 _ _ _ _ (search rules) c.ranges.beacon refl refl)) refl c.distance_squared.ensures)
-    (squared_as _ _ _ _ (ap square (held_difference w32 _ _ _ _ (search rules) c.ranges.beacon refl refl)) refl c.distance-squared-2.ensures)
+    (squared_as _ _ _ _ (ap square (held_difference w32 _ _ _ _ (search rules) c.ranges.beacon refl refl)) refl c.distance_squared-2.ensures)
     c.max.result c.max.ensures.value
 
-pub distance-squared-requires-2 : goal.distance-squared-requires-2
-distance-squared-requires-2 c = record { v = search rules; beacon = search rules }
+pub distance_squared-requires-2 : goal.distance_squared-requires-2
+distance_squared-requires-2 c = record { v = search rules; beacon = search rules }

@@ -3,11 +3,11 @@ use Rattle.std.proofs.lemmas.Int.{ints}
 use Rattle.constraint.specs.Squares.{root_bound, nearest_from, nearest_none}
 use Rattle.constraint.proofs.ring.inner_radius.Goals as goal
 
-pub overflow-cast-result : goal.overflow-cast-result
-overflow-cast-result c = let b = root_bound c.root.result _ c.root.ensures.below (omega (arith, ints)) in omega (arith, ints)
+pub overflow_cast-result : goal.overflow_cast-result
+overflow_cast-result c = let b = root_bound c.root.result _ c.root.ensures.below (omega (arith, ints)) in omega (arith, ints)
 
-pub overflow-add-result : goal.overflow-add-result
-overflow-add-result c = let b = root_bound c.root.result _ c.root.ensures.below (omega (arith, ints)) in omega (arith, ints)
+pub overflow_add-result : goal.overflow_add-result
+overflow_add-result c = let b = root_bound c.root.result _ c.root.ensures.below (omega (arith, ints)) in omega (arith, ints)
 
 pub returns-then-inner-le0 : goal.returns-then-inner-le0
 returns-then-inner-le0 c = nearest_none c.args.inner (omega (arith, ints))

@@ -21,8 +21,8 @@ returns-else-contains c =
     squared_as _ _ _ _ (sym (cond-false _ _ _ outside)) refl
     (smaller _ _ _ _
     (squared_as _ _ _ _ (ap square (held_difference w32 _ _ _ _ (search rules) c.ranges.beacon refl refl)) refl c.distance_squared.ensures)
-    (squared_as _ _ _ _ (ap square (held_difference w32 _ _ _ _ (search rules) c.ranges.beacon refl refl)) refl c.distance-squared-else-contains.ensures)
+    (squared_as _ _ _ _ (ap square (held_difference w32 _ _ _ _ (search rules) c.ranges.beacon refl refl)) refl c.distance_squared-else-contains.ensures)
     c.min.result c.min.ensures.value)
 
-pub distance-squared-requires-else-contains : goal.distance-squared-requires-else-contains
-distance-squared-requires-else-contains c = record { v = search rules; beacon = search rules }
+pub distance_squared-requires-else-contains : goal.distance_squared-requires-else-contains
+distance_squared-requires-else-contains c = record { v = search rules; beacon = search rules }

@@ -3,8 +3,8 @@ use Rattle.std.proofs.lemmas.Int.{ints}
 use Rattle.constraint.specs.Squares.{root_bound, farthest_from}
 use Rattle.constraint.proofs.ring.outer_radius.Goals as goal
 
-pub overflow-cast-result : goal.overflow-cast-result
-overflow-cast-result c = let b = root_bound c.root.result _ c.root.ensures.below (omega (arith, ints)) in omega (arith, ints)
+pub overflow_cast-result : goal.overflow_cast-result
+overflow_cast-result c = let b = root_bound c.root.result _ c.root.ensures.below (omega (arith, ints)) in omega (arith, ints)
 
 pub returns : goal.returns
 returns c =

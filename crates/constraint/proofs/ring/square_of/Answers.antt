@@ -3,8 +3,8 @@ use Rattle.std.proofs.lemmas.Int.{ints}
 use Rattle.constraint.specs.Squares.{square_fits, squared}
 use Rattle.constraint.proofs.ring.square_of.Goals as goal
 
-pub overflow-mul-result : goal.overflow-mul-result
-overflow-mul-result c =
+pub overflow_mul-result : goal.overflow_mul-result
+overflow_mul-result c =
     let a = c.requires.above in
     let b = c.requires.below in
     square_fits _ (omega (arith, ints)) (omega (arith, ints))

@@ -5,14 +5,14 @@ use Rattle.tube.proofs.Ends.{spanned}
 use Rattle.constraint.specs.Constraints.{lies_between}
 use Rattle.constraint.proofs.sum.fits_differences.Goals as goal
 
-pub overflow-sub-a : goal.overflow-sub-a
-overflow-sub-a c =
+pub overflow_sub-a : goal.overflow_sub-a
+overflow_sub-a c =
     let a = spanned c.args.a.low c.args.a.high c.args.a.spanned in
     let b = spanned c.args.b.low c.args.b.high c.args.b.spanned in
     omega (arith, ints)
 
-pub overflow-sub-a-2 : goal.overflow-sub-a-2
-overflow-sub-a-2 c =
+pub overflow_sub-a-2 : goal.overflow_sub-a-2
+overflow_sub-a-2 c =
     let a = spanned c.args.a.low c.args.a.high c.args.a.spanned in
     let b = spanned c.args.b.low c.args.b.high c.args.b.spanned in
     omega (arith, ints)

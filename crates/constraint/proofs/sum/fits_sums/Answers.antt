@@ -5,14 +5,14 @@ use Rattle.tube.proofs.Ends.{spanned}
 use Rattle.constraint.specs.Constraints.{lies_between}
 use Rattle.constraint.proofs.sum.fits_sums.Goals as goal
 
-pub overflow-add-a : goal.overflow-add-a
-overflow-add-a c =
+pub overflow_add-a : goal.overflow_add-a
+overflow_add-a c =
     let a = spanned c.args.a.low c.args.a.high c.args.a.spanned in
     let b = spanned c.args.b.low c.args.b.high c.args.b.spanned in
     omega (arith, ints)
 
-pub overflow-add-a-2 : goal.overflow-add-a-2
-overflow-add-a-2 c =
+pub overflow_add-a-2 : goal.overflow_add-a-2
+overflow_add-a-2 c =
     let a = spanned c.args.a.low c.args.a.high c.args.a.spanned in
     let b = spanned c.args.b.low c.args.b.high c.args.b.spanned in
     omega (arith, ints)

@@ -3,8 +3,8 @@ use Rattle.std.proofs.lemmas.Int.{to_z-of_z}
 use Rattle.constraint.specs.Places.{ranged_from}
 use Rattle.constraint.proofs.range.Range.is_y_whole.Goals as goal
 
-pub is-axis-whole-requires : goal.is-axis-whole-requires
-is-axis-whole-requires c =
+pub is_axis_whole-requires : goal.is_axis_whole-requires
+is_axis_whole-requires c =
     let k = c.args.self in
     let r = ranged_from k.x k.y k.beacon.x k.beacon.y k.nearest k.farthest k.placed in
     let a : SFits w32 k.nearest = search rules in
@@ -20,4 +20,4 @@ returns c =
     let b : SFits w32 k.farthest = search rules in
     let d : SFits w32 k.beacon.x = search rules in
     let e : SFits w32 k.beacon.y = search rules in
-    simp to_z-of_z at c.is-axis-whole.ensures
+    simp to_z-of_z at c.is_axis_whole.ensures

@@ -6,9 +6,9 @@ use Rattle.constraint.proofs.sum.Summed.new.Goals as goal
 pub unreachable-requires : goal.unreachable-requires
 unreachable-requires c =
     let a = c.args in
-    start_left (row_of a.from) (row_of a.by) (row_of a.to) (row_of c.in-ok-sum.sum) (spanned _ _ a.from.spanned).ordered (spanned _ _ a.by.spanned).ordered c.in-ok-sum.ensures c.in-default.ensures
+    start_left (row_of a.from) (row_of a.by) (row_of a.to) (row_of c.in_ok-sum.sum) (spanned _ _ a.from.spanned).ordered (spanned _ _ a.by.spanned).ordered c.in_ok-sum.ensures c.in_default.ensures
 
-pub unreachable-requires-in-default-with-difference : goal.unreachable-requires-in-default-with-difference
-unreachable-requires-in-default-with-difference c =
+pub unreachable-requires-in_default-with_difference : goal.unreachable-requires-in_default-with_difference
+unreachable-requires-in_default-with_difference c =
     let a = c.args in
-    added_left (row_of a.from) (row_of a.by) (row_of a.to) (row_of c.in-ok-sum.sum) (spanned _ _ a.from.spanned).ordered (spanned _ _ a.by.spanned).ordered c.in-ok-sum.ensures c.in-default-with-difference.ensures
+    added_left (row_of a.from) (row_of a.by) (row_of a.to) (row_of c.in_ok-sum.sum) (spanned _ _ a.from.spanned).ordered (spanned _ _ a.by.spanned).ordered c.in_ok-sum.ensures c.in_default-with_difference.ensures

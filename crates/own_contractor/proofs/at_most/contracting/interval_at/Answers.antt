@@ -13,4 +13,4 @@ invariant-of-result c =
     let ends = spanned r.low r.high held in
     let low_fits : SFits w32 r.low = search rules in
     let high_fits : SFits w32 r.high = search rules in
-    (simp to_z-of_z held, tt)
+    record { spanned = simp to_z-of_z held }

@@ -9,22 +9,22 @@ use Rattle.constraint.specs.SumsLemmas.{Ordered}
 use Rattle.constraint.proofs.Wholes.{range_whole}
 use Rattle.constraint.proofs.range.contracting.RangeContractor.narrow.Goals as goal
 
-pub returns-then-is-whole : goal.returns-then-is-whole
-returns-then-is-whole c =
+pub returns-then-is_whole : goal.returns-then-is_whole
+returns-then-is_whole c =
     let t = c.args.tube.now in
     let k = c.args.self.now in
-    let x = c.interval-at-x.result in
-    let y = c.interval-at-y.result in
-    let whole : both_whole k.nearest k.farthest (row_of x) (row_of y) k.beacon.x k.beacon.y ≡ true = sym c.if-is-whole.ensures in
+    let x = c.interval_at-x.result in
+    let y = c.interval_at-y.result in
+    let whole : both_whole k.nearest k.farthest (row_of x) (row_of y) k.beacon.x k.beacon.y ≡ true = sym c.if-is_whole.ensures in
     let same : ranged k.number k.x k.y k.beacon.x k.beacon.y k.nearest k.farthest t ≡ settled t =
     range_whole k.number k.x k.y k.beacon.x k.beacon.y k.nearest k.farthest t
-    (subst Ordered c.interval-at-x.ensures (spanned x.low x.high x.spanned).ordered)
-    (subst Ordered c.interval-at-y.ensures (spanned y.low y.high y.spanned).ordered)
-    (subst (λ r. both_whole k.nearest k.farthest r (cell t k.y) k.beacon.x k.beacon.y ≡ true) c.interval-at-x.ensures (subst (λ r. both_whole k.nearest k.farthest (row_of x) r k.beacon.x k.beacon.y ≡ true) c.interval-at-y.ensures whole)) in
+    (subst Ordered c.interval_at-x.ensures (spanned x.low x.high x.spanned).ordered)
+    (subst Ordered c.interval_at-y.ensures (spanned y.low y.high y.spanned).ordered)
+    (subst (λ r. both_whole k.nearest k.farthest r (cell t k.y) k.beacon.x k.beacon.y ≡ true) c.interval_at-x.ensures (subst (λ r. both_whole k.nearest k.farthest (row_of x) r k.beacon.x k.beacon.y ≡ true) c.interval_at-y.ensures whole)) in
     record { same = refl; answer = ap (λ a. record { answer = a; tube = t }) c.settled.ensures ∙ sym same }
 
-pub interval-at-x-requires : goal.interval-at-x-requires
-interval-at-x-requires c = let f = accepted_facts (range_value c.args.self.now) c.args.tube.now c.requires in record { tube = f.tube; within = omega (arith, f.need) }
+pub interval_at-x-requires : goal.interval_at-x-requires
+interval_at-x-requires c = let f = accepted_facts (range_value c.args.self.now) c.args.tube.now c.requires in record { tube = f.tube; within = omega (arith, f.need) }
 
-pub interval-at-y-requires : goal.interval-at-y-requires
-interval-at-y-requires c = let f = accepted_facts (range_value c.args.self.now) c.args.tube.now c.requires in record { tube = f.tube; within = omega (arith, f.need) }
+pub interval_at-y-requires : goal.interval_at-y-requires
+interval_at-y-requires c = let f = accepted_facts (range_value c.args.self.now) c.args.tube.now c.requires in record { tube = f.tube; within = omega (arith, f.need) }
