@@ -2,8 +2,7 @@
 use Rattle.contractor.specs.Composing.{both_keeps}
 use Rattle.contractor.specs.Repeating.{repeat_keeps}
 use Rattle.contractor.specs.Uniting.{either_keeps}
-use Rattle.contractor.specs.Contractors.{Keeps}
-use Rattle.net.specs.Piles.{Pile, alone, both_of, either_of, repeat_of, net_of, value_of, Built, PilesKeep}
+use Rattle.net.specs.Piles.{alone, both_of, either_of, repeat_of, net_of, value_of, PilesKeep}
 use Rattle.net.specs.Keeping.{net_keeps}
 
 pub piles_keep : PilesKeep

@@ -1,7 +1,7 @@
 -- The loop that lets records join, with a cursor for each of three cells. Assumes nothing.
 use Rattle.std.proofs.Common.{◌≡◌, ℕ, ◌+◌, ◌<◌, ◌≤◌, min, Bool, true, false, List, [], ◌∷◌, ◌++◌, length, get_or, sym, ap, ◌∙◌, subst, arith}
 use Rattle.net.specs.Nets.{among, joining}
-use Rattle.net.specs.Chains.{least_after, cursor, chosen}
+use Rattle.net.specs.Chains.{least_after, chosen}
 use Rattle.net.specs.Links.{slot, counted, stands, passed}
 use Rattle.net.specs.Queues.{joined_by}
 use Rattle.net.specs.declared.chains.Cursor.{Cursor}

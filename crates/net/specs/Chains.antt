@@ -1,5 +1,5 @@
 -- The records that mention a cell, one after another in list order. Assumes nothing.
-use Rattle.std.specs.Prelude.{ℕ, zero, suc, min, Bool, true, false, cond, List, [], ◌∷◌, length}
+use Rattle.std.specs.Prelude.{ℕ, zero, suc, min, Bool, cond, List, [], ◌∷◌, length}
 use Rattle.net.specs.Nets.{among}
 
 -- The first position, from a given one on, whose record mentions the cell, or the number of records where there is none.

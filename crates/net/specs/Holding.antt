@@ -1,12 +1,11 @@
 -- The records that a net holds. Assumes nothing.
-use Rattle.std.specs.Prelude.{◌≡◌, ℕ, ◌+◌, ◌<◌, ◌≤◌, max, true, List, [], ◌∷◌, length, take, drop, Ok, Err, slice_index_or, slice_set}
+use Rattle.std.specs.Prelude.{◌≡◌, ℕ, ◌+◌, ◌<◌, ◌≤◌, max, List, length, take, drop, Ok, Err, slice_index_or, slice_set}
 use Rattle.std.proofs.Common.{sym, ap, ap₂, ◌∙◌, arith}
 use Rattle.std.proofs.lemmas.List.{length-map, length-take-le, take_more_set, at_drop_more, at_drop_all}
 use Rattle.std.proofs.lemmas.Bool.{cond-true, cond-false, lt-ltb, le-ltb}
 use Rattle.std.proofs.lemmas.Bool.Decides.{nat_tests}
 use Rattle.tube.specs.declared.row.Row.{Row}
 use Rattle.contractor.specs.Contractors.{Keeps}
-use Rattle.contractor.specs.Counts.{most_rounds, is_count}
 use Rattle.contractor.specs.declared.build.BuildRefusal.TheVariants.{NetFull}
 use Rattle.constraint.specs.declared.constraint.Constraint.{Constraint}
 use Rattle.constraint.specs.Kinds.{constraint_value}

@@ -1,8 +1,7 @@
 -- The run of a net in code: what is known as each turn begins, and how a turn ends. Assumes nothing.
-use Rattle.std.specs.Prelude.{◌≡◌, ℕ, zero, suc, ◌+◌, ◌-◌, ◌*◌, ◌<◌, ◌≤◌, Bool, true, List, [], ◌∷◌, ◌++◌, map, length, get_or, slice_index_or, refl}
-use Rattle.std.proofs.Common.{sym, ap, subst, ◌∙◌, not-suc-le-zero, le_of_suc-le-suc, arith}
+use Rattle.std.specs.Prelude.{◌≡◌, ℕ, suc, ◌+◌, ◌-◌, ◌<◌, ◌≤◌, Bool, true, List, [], ◌∷◌, ◌++◌, map, length, get_or, slice_index_or, refl}
+use Rattle.std.proofs.Common.{sym, ap, subst, ◌∙◌, arith}
 use Rattle.std.specs.List.{AllByRecursion as All}
-use Rattle.std.proofs.ByRecursion.{All-map}
 use Rattle.std.proofs.lemmas.List.{length-map, get_or-map}
 use Rattle.tube.specs.Tubes.{is_tube}
 use Rattle.tube.specs.declared.row.Row.{Row}
@@ -18,7 +17,7 @@ use Rattle.constraint.specs.Mentions.{cell_slots}
 use Rattle.constraint.specs.declared.constraint.Constraint.{Constraint}
 use Rattle.constraint.specs.declared.constraint.Constraint.TheVariants.{Bound as of_bound, Step as of_step, Range as of_range}
 use Rattle.constraint.specs.Keeping.{constraint_keeps}
-use Rattle.net.specs.Nets.{Part, mentions, greatest_need, narrower, among, joining, positions, rest_mark, net_digit, at_position, spun, Recorded}
+use Rattle.net.specs.Nets.{mentions, greatest_need, narrower, among, joining, positions, rest_mark, net_digit, at_position, spun, Recorded}
 use Rattle.net.specs.Links.{slots, counted}
 use Rattle.net.specs.Queues.{Below}
 use Rattle.net.specs.Records.{part, parts}

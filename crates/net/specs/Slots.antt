@@ -1,8 +1,8 @@
 -- The cells that a constraint mentions, in three slots. Assumes nothing.
 use Rattle.std.specs.Prelude.{◌≡◌, ℕ, ◌+◌, Bool, true, false, cond, not, ◌&&◌, ◌||◌, ◌≢◌, List, [], ◌∷◌, map, length, get_or, ◌==◌, nat_eq, slice_index_or, refl}
-use Rattle.std.proofs.Common.{sym, ap, ap₂, ◌∙◌, ⊎_elim, arith}
+use Rattle.std.proofs.Common.{sym, ap, ap₂, ◌∙◌, arith}
 use Rattle.std.specs.List.{AllByRecursion as All}
-use Rattle.std.proofs.lemmas.Bool.{cases_Bool, eqb-true, eqb-false, or_parts}
+use Rattle.std.proofs.lemmas.Bool.{eqb-true, eqb-false, or_parts}
 use Rattle.tube.specs.Tubes.{most_cells, cell, nowhere}
 use Rattle.tube.specs.declared.row.Row.{Row}
 use Rattle.contractor.specs.Contractors.{Accepted}
@@ -12,7 +12,7 @@ use Rattle.constraint.specs.Kinds.{constraint_value}
 use Rattle.constraint.specs.Mentions.{constraint_cells, cell_slots}
 use Rattle.constraint.specs.declared.constraint.Constraint.{Constraint}
 use Rattle.constraint.specs.declared.constraint.Constraint.TheVariants.{Bound as of_bound, Step as of_step, Range as of_range}
-use Rattle.constraint.proofs.Confined.{cells_placed, cells_needed, constraint_confined}
+use Rattle.constraint.proofs.Confined.{cells_placed, constraint_confined}
 use Rattle.net.specs.Nets.{narrower, some_cell, among, joining, mentions}
 use Rattle.net.specs.Chains.{chosen}
 use Rattle.net.specs.Links.{slots, slot, Three, counted}

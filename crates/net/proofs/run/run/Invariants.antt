@@ -1,5 +1,4 @@
-use Rattle.std.proofs.Common.{◌≡◌, ◌-◌}
-use Rattle.net.specs.Links.{slots, slots_of, Chained}
+use Rattle.std.proofs.Common.{◌-◌}
 use Rattle.net.specs.Queues.{queue_of, Queued}
 use Rattle.net.specs.Running.{Running}
 use Rattle.net.proofs.run.run.Given as goal

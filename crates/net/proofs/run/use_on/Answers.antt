@@ -4,13 +4,13 @@ use Rattle.net.specs.Nets.{narrower}
 use Rattle.net.specs.Slots.{three_within, compared}
 use Rattle.net.proofs.run.use_on.Goals as goal
 
-pub rows-at-before-requires : goal.rows-at-before-requires
-rows-at-before-requires c =
+pub rows_at-before-requires : goal.rows_at-before-requires
+rows_at-before-requires c =
     let k = c.args.constraint in
     subst (Three (length c.args.tube.now)) (sym c.cells-cells.ensures) (three_within k c.args.tube.now c.requires)
 
-pub rows-at-after-requires : goal.rows-at-after-requires
-rows-at-after-requires c =
+pub rows_at-after-requires : goal.rows_at-after-requires
+rows_at-after-requires c =
     let k = c.args.constraint in
     let same : length c.args.tube.now ≡ length c.narrow-answer.new.tube = omega arith in
     subst (λ n. Three n c.cells-cells.result) same (subst (Three (length c.args.tube.now)) (sym c.cells-cells.ensures) (three_within k c.args.tube.now c.requires))
@@ -25,5 +25,5 @@ returns c =
       verdict = ap (λ x. x.answer.verdict) c.narrow-answer.ensures.answer;
       left = ap (λ x. x.tube) c.narrow-answer.ensures.answer;
       cells = c.cells-cells.ensures;
-      narrower = compared t u (length t) c.cells-cells.result c.rows-at-before.result c.rows-at-after.result c.is-same.result c.is-same-2.result c.is-same-3.result three c.rows-at-before.ensures c.rows-at-after.ensures c.is-same.ensures c.is-same-2.ensures c.is-same-3.ensures ∙ ap (map (narrower t u)) c.cells-cells.ensures;
+      narrower = compared t u (length t) c.cells-cells.result c.rows_at-before.result c.rows_at-after.result c.is_same.result c.is_same-2.result c.is_same-3.result three c.rows_at-before.ensures c.rows_at-after.ensures c.is_same.ensures c.is_same-2.ensures c.is_same-3.ensures ∙ ap (map (narrower t u)) c.cells-cells.ensures;
     }

@@ -1,4 +1,4 @@
-use Rattle.std.proofs.Common.{◌≡◌, ◌+◌, ◌-◌, ◌<◌, [], length, get_or, sym, refl, ap, ◌∙◌, subst, arith}
+use Rattle.std.proofs.Common.{◌≡◌, ◌+◌, ◌-◌, [], length, get_or, sym, refl, ap, ◌∙◌, subst, arith}
 use Rattle.std.proofs.lemmas.List.{get_or-map, length-map}
 use Rattle.tube.specs.Tubes.{most_cells}
 use Rattle.constraint.specs.Mentions.{cell_slots}
@@ -13,14 +13,14 @@ placed c = subst (Three most_cells) (sym c.cells-cells.ensures) (three_slots c.i
 pub loop-i-init : goal.loop-i-init
 loop-i-init c = linking_none (slots c.args.records.now) (length c.args.records.now) _ (sym (length-map c.args.records.now cell_slots))
 
-pub offset-bounds-heads-a : goal.offset-bounds-heads-a
-offset-bounds-heads-a c = omega (arith, (placed c).first)
+pub offset_bounds-heads-a : goal.offset_bounds-heads-a
+offset_bounds-heads-a c = omega (arith, (placed c).first)
 
-pub offset-bounds-heads-b : goal.offset-bounds-heads-b
-offset-bounds-heads-b c = omega (arith, (placed c).second)
+pub offset_bounds-heads-b : goal.offset_bounds-heads-b
+offset_bounds-heads-b c = omega (arith, (placed c).second)
 
-pub offset-bounds-heads-c : goal.offset-bounds-heads-c
-offset-bounds-heads-c c = omega (arith, (placed c).third)
+pub offset_bounds-heads-c : goal.offset_bounds-heads-c
+offset_bounds-heads-c c = omega (arith, (placed c).third)
 
 pub bounds-heads-a : goal.bounds-heads-a
 bounds-heads-a c = (placed c).first
@@ -31,20 +31,20 @@ bounds-heads-b c = (placed c).second
 pub bounds-heads-c : goal.bounds-heads-c
 bounds-heads-c c = (placed c).third
 
-pub offset-bounds-heads-a-in-loop-i : goal.offset-bounds-heads-a-in-loop-i
-offset-bounds-heads-a-in-loop-i c = omega (arith, (placed c).first)
+pub offset_bounds-heads-a-in-loop-i : goal.offset_bounds-heads-a-in-loop-i
+offset_bounds-heads-a-in-loop-i c = omega (arith, (placed c).first)
 
 pub bounds-heads-a-in-loop-i : goal.bounds-heads-a-in-loop-i
 bounds-heads-a-in-loop-i c = (placed c).first
 
-pub offset-bounds-heads-b-in-loop-i : goal.offset-bounds-heads-b-in-loop-i
-offset-bounds-heads-b-in-loop-i c = omega (arith, (placed c).second)
+pub offset_bounds-heads-b-in-loop-i : goal.offset_bounds-heads-b-in-loop-i
+offset_bounds-heads-b-in-loop-i c = omega (arith, (placed c).second)
 
 pub bounds-heads-b-in-loop-i : goal.bounds-heads-b-in-loop-i
 bounds-heads-b-in-loop-i c = (placed c).second
 
-pub offset-bounds-heads-c-in-loop-i : goal.offset-bounds-heads-c-in-loop-i
-offset-bounds-heads-c-in-loop-i c = omega (arith, (placed c).third)
+pub offset_bounds-heads-c-in-loop-i : goal.offset_bounds-heads-c-in-loop-i
+offset_bounds-heads-c-in-loop-i c = omega (arith, (placed c).third)
 
 pub bounds-heads-c-in-loop-i : goal.bounds-heads-c-in-loop-i
 bounds-heads-c-in-loop-i c = (placed c).third

@@ -1,4 +1,4 @@
-use Rattle.std.proofs.Common.{sym, arith}
+use Rattle.std.proofs.Common.{sym}
 use Rattle.net.specs.Holding.{held_count}
 use Rattle.net.proofs.net.Net.len.Goals as goal
 

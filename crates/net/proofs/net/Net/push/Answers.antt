@@ -2,12 +2,12 @@ use Rattle.std.proofs.Common.{refl, arith}
 use Rattle.net.specs.Holding.{full_answer, full_same, push_done, push_last}
 use Rattle.net.proofs.net.Net.push.Goals as goal
 
-pub returns-then-self-eq-MAX-RECORDS : goal.returns-then-self-eq-MAX-RECORDS
-returns-then-self-eq-MAX-RECORDS c =
+pub returns-then-self-eq-MAX_RECORDS : goal.returns-then-self-eq-MAX_RECORDS
+returns-then-self-eq-MAX_RECORDS c =
     let n = c.args.self.now in
     record {
-      answer = full_answer n.table n.count n.sized n.held c.if-self-eq-MAX-RECORDS.true;
-      records = full_same n.table n.count n.sized n.held c.if-self-eq-MAX-RECORDS.true c.args.constraint;
+      answer = full_answer n.table n.count n.sized n.held c.if-self-eq-MAX_RECORDS.true;
+      records = full_same n.table n.count n.sized n.held c.if-self-eq-MAX_RECORDS.true c.args.constraint;
       rounds = refl;
     }
 
