@@ -12,8 +12,8 @@ use tube::Row;
 impl Proposal {
     // Uses a contractor on the work table and charges the calls that it answers.
     pub fn apply<C: Contractor>(self, contractor: &mut C, work: &mut [Row]) -> Used
-        ensures same { value contractor.new ≡ value contractor.old }
-        ensures result { Using self (value contractor.old) work.old work.new result }
+        ensures same { C.value contractor.new ≡ C.value contractor.old }
+        ensures result { Using self (C.value contractor.old) work.old work.new result }
     {
         if let Some(refusal) = self.refusal(contractor, work) {
             return Used::Refused(self, refusal);
@@ -45,7 +45,7 @@ impl Proposal {
 
     // Why a use would be refused, the smallest number first, or none.
     fn refusal<C: Contractor>(&self, contractor: &C, work: &[Row]) -> Option<TrackRefusal>
-        ensures { result ≡ use_refusal self.now.cells self.now.allowance self.now.charged (value contractor.now) work.now }
+        ensures { result ≡ use_refusal self.now.cells self.now.allowance self.now.charged (C.value contractor.now) work.now }
     {
         if let Some(refusal) = contractor.refusal(work) {
             return Some(of_use(refusal));

@@ -79,8 +79,8 @@ fn mark_end(mark: Mark) -> &'static [u8]
 }
 
 fn put_kept_line(page: &mut Page, calls: u64, mark: Mark)
-    requires { Room page.old (line (codes "kept") (decimal calls ∷ mark-word mark ∷ [])) }
-    ensures { page-bytes page.new ≡ page-bytes page.old ++ line (codes "kept") (decimal calls ∷ mark-word mark ∷ []) }
+    requires { Room page.old (line (codes "kept") (decimal calls ∷ mark_word mark ∷ [])) }
+    ensures { page_bytes page.new ≡ page_bytes page.old ++ line (codes "kept") (decimal calls ∷ mark_word mark ∷ []) }
 {
     page.put(b"kept ");
     page.put_number(calls);

@@ -125,7 +125,7 @@ fn mark_end(mark: Mark) -> &'static [u8]
 }
 
 fn put_kept_line(out: &mut Vec<u8>, calls: u64, mark: Mark) -> Result<(), AllocError>
-    ensures { Put out.old.items (line (codes "kept") (decimal calls ∷ mark-word mark ∷ [])) result out.new.items }
+    ensures { Put out.old.items (line (codes "kept") (decimal calls ∷ mark_word mark ∷ [])) result out.new.items }
 {
     put(out, b"kept ")?;
     put_number(out, calls)?;

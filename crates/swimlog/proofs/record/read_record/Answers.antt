@@ -6,10 +6,10 @@ use Rattle.swimlog.proofs.record.read_record.Goals as goal
 pub returns : goal.returns
 returns c =
     let bytes = c.args.bytes.now in
-    let h = field_read bytes (c.head_start.result + head_length) (head_at bytes c.head_start.result) c.in-ok-head.head c.in-ok-head.ensures in
-    let b = field_read bytes (c.body_start.result + body_length) (body_at bytes c.body_start.result) c.in-ok-body.body c.in-ok-body.ensures in
+    let h = field_read bytes (c.head_start.result + head_length) (head_at bytes c.head_start.result) c.in_ok-head.head c.in_ok-head.ensures in
+    let b = field_read bytes (c.body_start.result + body_length) (body_at bytes c.body_start.result) c.in_ok-body.body c.in_ok-body.ensures in
     let whole : body_start c.args.sizes.records c.args.index + body_length ≤ length bytes = omega (arith, b.0) in
-    reads_parts bytes c.args.sizes.gates c.args.sizes.records c.args.index whole c.constraint-of.result
-    _ c.in-ok-head.head c.in-ok-body.body
+    reads_parts bytes c.args.sizes.gates c.args.sizes.records c.args.index whole c.constraint_of.result
+    _ c.in_ok-head.head c.in_ok-body.body
     (omega arith) (h.1 ∙ ap (head_at bytes) c.head_start.ensures) (b.1 ∙ ap (body_at bytes) c.body_start.ensures)
-    c.constraint-of.ensures
+    c.constraint_of.ensures

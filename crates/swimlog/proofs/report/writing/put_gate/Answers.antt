@@ -8,7 +8,7 @@ pub returns : goal.returns
 returns c =
     let tube = c.args.tube.now in
     let gate = decimal c.args.gate in
-    put_as (vec_items c.args.out.now) (line gate (place_fields (cell tube c.gate_cell.result) (cell tube c.gate-cell-2.result)))
-    (gate_line c.args.sizes.gates tube c.args.gate) (vec_items c.put-place-line.new.out) c.put-place-line.result
-    (ap (λ k. line gate (place_fields (cell tube k) (cell tube c.gate-cell-2.result))) c.gate_cell.ensures ∙ ap (λ k. line gate (place_fields (cell tube c.args.gate) (cell tube k))) c.gate-cell-2.ensures)
-    c.put-place-line.ensures
+    put_as (vec_items c.args.out.now) (line gate (place_fields (cell tube c.gate_cell.result) (cell tube c.gate_cell-2.result)))
+    (gate_line c.args.sizes.gates tube c.args.gate) (vec_items c.put_place_line.new.out) c.put_place_line.result
+    (ap (λ k. line gate (place_fields (cell tube k) (cell tube c.gate_cell-2.result))) c.gate_cell.ensures ∙ ap (λ k. line gate (place_fields (cell tube c.args.gate) (cell tube k))) c.gate_cell-2.ensures)
+    c.put_place_line.ensures

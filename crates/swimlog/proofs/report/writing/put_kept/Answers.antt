@@ -5,6 +5,6 @@ use Rattle.swimlog.proofs.report.writing.put_kept.Goals as goal
 
 pub returns : goal.returns
 returns c =
-    put_then (vec_items c.args.out.now) (vec_items c.put-kept-line.new.out) (vec_items c.put-gates.new.out)
-    (line (codes "kept") (decimal c.args.calls ∷ mark_word c.args.mark ∷ [])) c.in-ok-put-kept-line.ensures
-    (gate_lines c.args.sizes.gates c.args.tube.now c.args.sizes.gates) c.put-gates.result c.put-gates.ensures
+    put_then (vec_items c.args.out.now) (vec_items c.put_kept_line.new.out) (vec_items c.put_gates.new.out)
+    (line (codes "kept") (decimal c.args.calls ∷ mark_word c.args.mark ∷ [])) c.in_ok-put_kept_line.ensures
+    (gate_lines c.args.sizes.gates c.args.tube.now c.args.sizes.gates) c.put_gates.result c.put_gates.ensures

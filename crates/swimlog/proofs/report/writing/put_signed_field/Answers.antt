@@ -8,5 +8,5 @@ use Rattle.swimlog.proofs.report.writing.put_signed_field.Goals as goal
 pub returns : goal.returns
 returns c =
     let n_fits = c.ranges.n in
-    put_then (vec_items c.args.out.now) (vec_items c.put.new.out) (vec_items c.put-signed.new.out) (space ∷ []) c.in-ok-put.ensures
-    (signed_decimal c.args.n) c.put-signed.result (simp to_z-of_z at c.put-signed.ensures)
+    put_then (vec_items c.args.out.now) (vec_items c.put.new.out) (vec_items c.put_signed.new.out) (space ∷ []) c.in_ok-put.ensures
+    (signed_decimal c.args.n) c.put_signed.result (simp to_z-of_z at c.put_signed.ensures)
