@@ -1,9 +1,8 @@
 -- Every history keeps its promises. Assumes nothing.
-use Rattle.std.proofs.Common.{◌≡◌, ℕ, ◌+◌, ◌≤◌, Bool, true, false, List, [], ◌∷◌, ◌++◌, sym, refl, ap, ◌∙◌, subst, inl, inr, ⊎_elim, arith}
-use Rattle.std.proofs.lemmas.Bool.{cases_Bool, both_ways}
+use Rattle.std.proofs.Common.{◌≡◌, ℕ, ◌+◌, ◌≤◌, List, [], ◌∷◌, ◌++◌, sym, refl, ap, ◌∙◌, subst, ⊎_elim, arith}
+use Rattle.std.proofs.lemmas.Bool.{cases_Bool}
 use Rattle.std.specs.List.{AllByRecursion as All}
 use Rattle.tube.specs.declared.row.Row.{Row}
-use Rattle.contractor.specs.declared.answer.Answer.{Answer}
 use Rattle.contractor.specs.declared.answer.Fault.{Fault}
 use Rattle.contractor.specs.declared.answer.Verdict.{Verdict}
 use Rattle.contractor.specs.declared.answer.Verdict.TheVariants.{Kept, Empty}
@@ -11,8 +10,8 @@ use Rattle.tube.specs.Tubes.{Trajectory, Lies, Inside, single}
 use Rattle.tube.proofs.Insides.{inside_same, inside_trans}
 use Rattle.tube.proofs.Trajectories.{in_single}
 use Rattle.contractor.specs.Answers.{IsEmpty, IsKept}
-use Rattle.contractor.specs.Contractors.{Value, Keeps, Narrowed}
-use Rattle.track.specs.Histories.{Standing, resting, proposing, emptied, State, Use, Call, refused, proposed, used, committed, withdrawn, closed, standing_after, Next, History, open_uses, committed_uses, all_uses, copied, Obeys, total_calls, Exact, KeptPromises, HistoriesKeep}
+use Rattle.contractor.specs.Contractors.{Keeps}
+use Rattle.track.specs.Histories.{Standing, resting, proposing, emptied, State, Use, Call, refused, proposed, used, committed, withdrawn, closed, standing_after, Next, History, open_uses, committed_uses, all_uses, copied, Obeys, total_calls, Exact, HistoriesKeep}
 
 all_join : {X : Type 0} (P : X → Type 0) (xs ys : List X) → All P (xs ++ ys) → All P xs × All P ys
 all_join P [] ys h = (tt, h)

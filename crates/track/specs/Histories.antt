@@ -1,5 +1,5 @@
 -- A track's history, call by call, and what every history keeps. Assumes nothing.
-use Rattle.std.specs.Prelude.{◌≡◌, ℕ, ◌+◌, ◌<◌, ◌≤◌, Bool, true, false, cond, List, [], ◌∷◌, ◌++◌, length}
+use Rattle.std.specs.Prelude.{◌≡◌, ℕ, ◌+◌, ◌≤◌, true, false, List, [], ◌∷◌, ◌++◌, length}
 use Rattle.std.specs.List.{AllByRecursion as All}
 use Rattle.tube.specs.declared.row.Row.{Row}
 use Rattle.contractor.specs.declared.answer.Answer.{Answer}

@@ -1,9 +1,8 @@
 -- The standings of a track as states of its history, and what each call answers. Assumes nothing.
-use Rattle.std.specs.Prelude.{◌≡◌, ℕ, List, [], length, Some, None, Ok, Err, Result}
+use Rattle.std.specs.Prelude.{◌≡◌, ℕ, List, [], Some, None, Ok, Err, Result}
 use Rattle.tube.specs.declared.row.Row.{Row}
 use Rattle.contractor.specs.Contractors.{Value}
 use Rattle.contractor.specs.declared.answer.Fault.{Fault}
-use Rattle.contractor.specs.declared.answer.Mark.{Mark}
 use Rattle.contractor.specs.declared.answer.Verdict.TheVariants.{Kept as kept, Empty as empty}
 use Rattle.net.specs.Piles.{PilesKeep}
 use Rattle.track.specs.Histories.{State, resting, proposing, emptied, Use, refused, proposed, used, committed, withdrawn, closed, Next, History, HistoriesKeep}

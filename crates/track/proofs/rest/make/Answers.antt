@@ -1,5 +1,4 @@
-use Rattle.std.proofs.Common.{sym, refl, arith, rules}
-use Rattle.std.proofs.lemmas.Bool.Decides.{nat_tests}
+use Rattle.std.proofs.Common.{refl, arith, rules}
 use Rattle.net.proofs.Piling.{piles_keep}
 use Rattle.track.proofs.Keeping.{histories_keep}
 use Rattle.track.proofs.rest.make.Goals as goal
