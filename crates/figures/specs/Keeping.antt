@@ -1,6 +1,6 @@
 -- It keeps the meaning: it loses nothing, and there is nothing to decide. Assumes nothing.
 use Rattle.std.specs.Prelude.{◌≡◌, ℕ, true}
-use Rattle.std.proofs.Common.{sym, arith}
+use Rattle.std.proofs.Common.{arith}
 use Rattle.std.proofs.lemmas.Bool.{true≢false}
 use Rattle.std.proofs.lemmas.Bool.Decides.{nat_tests}
 use Rattle.tube.proofs.Insides.{inside_same}

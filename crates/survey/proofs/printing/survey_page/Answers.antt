@@ -3,4 +3,4 @@ use Rattle.survey.proofs.Prints.{printed_as}
 use Rattle.survey.proofs.printing.survey_page.Goals as goal
 
 pub returns : goal.returns
-returns c = c.report-page.ensures ∙ printed_as c.args.bytes.now c.survey.result c.survey.ensures.report
+returns c = c.report_page.ensures ∙ printed_as c.args.bytes.now c.survey.result c.survey.ensures.report

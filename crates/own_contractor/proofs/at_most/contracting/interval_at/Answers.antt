@@ -5,8 +5,8 @@ use Rattle.tube.proofs.Ends.{spanned}
 use Rattle.tube.proofs.Tables.{tube, interval_at}
 use Rattle.own_contractor.proofs.at_most.contracting.interval_at.Goals as goal
 
-pub invariant-of-result : goal.invariant-of-result
-invariant-of-result c =
+pub invariant_of-result : goal.invariant_of-result
+invariant_of-result c =
     let t = c.args.tube.now in
     let r = cell t c.args.index in
     let held : is_interval r ≡ true = interval_at t c.args.index c.requires.within (tube t c.requires.tube).each in

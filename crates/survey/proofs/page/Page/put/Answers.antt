@@ -2,11 +2,11 @@ use Rattle.std.proofs.Common.{arith}
 use Rattle.survey.proofs.Paging.{room_left, still_sized, holds_more}
 use Rattle.survey.proofs.page.Page.put.Goals as goal
 
-pub invariant-of-self : goal.invariant-of-self
-invariant-of-self c =
+pub invariant_of-self : goal.invariant_of-self
+invariant_of-self c =
     let page = c.args.self.now in
     let bytes = c.args.bytes.now in
-    (still_sized page bytes c.requires _ c.copy-from-slice.new.self (omega arith) c.copy-from-slice.ensures.after, (room_left page bytes c.requires, tt))
+    (still_sized page bytes c.requires _ c.copy_from_slice.new.self (omega arith) c.copy_from_slice.ensures.after, (room_left page bytes c.requires, tt))
 
 pub returns : goal.returns
-returns c = holds_more c.args.self.now c.args.bytes.now c.requires _ c.copy-from-slice.new.self (omega arith) c.copy-from-slice.ensures.after _ (omega arith)
+returns c = holds_more c.args.self.now c.args.bytes.now c.requires _ c.copy_from_slice.new.self (omega arith) c.copy_from_slice.ensures.after _ (omega arith)

@@ -2,11 +2,11 @@ use Rattle.std.proofs.Common.{decimal, arith}
 use Rattle.survey.proofs.Paging.{room_left, still_sized, holds_more}
 use Rattle.survey.proofs.page.Page.put_number.Goals as goal
 
-pub invariant-of-self : goal.invariant-of-self
-invariant-of-self c =
+pub invariant_of-self : goal.invariant_of-self
+invariant_of-self c =
     let page = c.args.self.now in
     let digits = decimal c.args.n in
-    (still_sized page digits c.requires _ c.write-digits.new.out (omega arith) c.write-digits.ensures, (omega (arith, room_left page digits c.requires), tt))
+    (still_sized page digits c.requires _ c.write_digits.new.out (omega arith) c.write_digits.ensures, (omega (arith, room_left page digits c.requires), tt))
 
 pub returns : goal.returns
-returns c = holds_more c.args.self.now (decimal c.args.n) c.requires _ c.write-digits.new.out (omega arith) c.write-digits.ensures _ (omega arith)
+returns c = holds_more c.args.self.now (decimal c.args.n) c.requires _ c.write_digits.new.out (omega arith) c.write_digits.ensures _ (omega arith)

@@ -4,15 +4,15 @@ use Rattle.survey.specs.Pages.{page_bytes, Room}
 use Rattle.survey.proofs.Numbers.{sign_below, sign_above}
 use Rattle.survey.proofs.page.Page.put_sign.Goals as goal
 
-pub put-byte-requires : goal.put-byte-requires
-put-byte-requires c =
+pub put_byte-requires : goal.put_byte-requires
+put_byte-requires c =
     let n_fits = c.ranges.n in
     subst (Room c.args.self.now) (sign_below c.args.n (simp to_z-of_z at c.if-n-lt0.true)) c.requires
 
 pub returns-then-n-lt0 : goal.returns-then-n-lt0
 returns-then-n-lt0 c =
     let n_fits = c.ranges.n in
-    c.put-byte.ensures ∙ ap (λ l. page_bytes c.args.self.now ++ l) (sym (sign_below c.args.n (simp to_z-of_z at c.if-n-lt0.true)))
+    c.put_byte.ensures ∙ ap (λ l. page_bytes c.args.self.now ++ l) (sym (sign_below c.args.n (simp to_z-of_z at c.if-n-lt0.true)))
 
 pub returns-else-n-lt0 : goal.returns-else-n-lt0
 returns-else-n-lt0 c =

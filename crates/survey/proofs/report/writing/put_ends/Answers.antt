@@ -7,22 +7,22 @@ use Rattle.survey.proofs.Paging.{room_first, room_second, put_both}
 use Rattle.survey.proofs.Puts.{spaced_pair}
 use Rattle.survey.proofs.report.writing.put_ends.Goals as goal
 
-pub put-signed-field-requires : goal.put-signed-field-requires
-put-signed-field-requires c =
+pub put_signed_field-requires : goal.put_signed_field-requires
+put_signed_field-requires c =
     let page = c.args.page.now in
     let low = signed_decimal c.args.row.low in
     let high = signed_decimal c.args.row.high in
     let low_fits : SFits w32 c.args.row.low = search rules in
     simp to_z-of_z (room_first page (space ∷ low) (space ∷ high) (subst (Room page) (sym (spaced_pair low high)) c.requires))
 
-pub put-signed-field-requires-2 : goal.put-signed-field-requires-2
-put-signed-field-requires-2 c =
+pub put_signed_field-requires-2 : goal.put_signed_field-requires-2
+put_signed_field-requires-2 c =
     let page = c.args.page.now in
     let low = signed_decimal c.args.row.low in
     let high = signed_decimal c.args.row.high in
     let low_fits : SFits w32 c.args.row.low = search rules in
     let high_fits : SFits w32 c.args.row.high = search rules in
-    simp to_z-of_z (room_second page (space ∷ low) (space ∷ high) (subst (Room page) (sym (spaced_pair low high)) c.requires) c.put-signed-field.new.page (simp to_z-of_z at c.put-signed-field.ensures))
+    simp to_z-of_z (room_second page (space ∷ low) (space ∷ high) (subst (Room page) (sym (spaced_pair low high)) c.requires) c.put_signed_field.new.page (simp to_z-of_z at c.put_signed_field.ensures))
 
 pub returns : goal.returns
 returns c =
@@ -31,5 +31,5 @@ returns c =
     let high = signed_decimal c.args.row.high in
     let low_fits : SFits w32 c.args.row.low = search rules in
     let high_fits : SFits w32 c.args.row.high = search rules in
-    put_both before (page_bytes c.put-signed-field.new.page) (page_bytes c.put-signed-field-2.new.page) (space ∷ low) (space ∷ high)
-    (simp to_z-of_z at c.put-signed-field.ensures) (simp to_z-of_z at c.put-signed-field-2.ensures) ∙ ap (λ l. before ++ l) (spaced_pair low high)
+    put_both before (page_bytes c.put_signed_field.new.page) (page_bytes c.put_signed_field-2.new.page) (space ∷ low) (space ∷ high)
+    (simp to_z-of_z at c.put_signed_field.ensures) (simp to_z-of_z at c.put_signed_field-2.ensures) ∙ ap (λ l. before ++ l) (spaced_pair low high)

@@ -5,8 +5,8 @@ use Rattle.swimlog.specs.Report.{space, spaced}
 use Rattle.survey.proofs.Puts.{fields_more, field_room}
 use Rattle.survey.proofs.report.writing.put_fields.Goals as goal
 
-pub put-field-requires : goal.put-field-requires
-put-field-requires c = field_room c.args.page.now c.loop-field.page c.args.fields.now c.loop-field.field-index (omega arith) c.requires c.loop-field.invariant
+pub put_field-requires : goal.put_field-requires
+put_field-requires c = field_room c.args.page.now c.loop-field.page c.args.fields.now c.loop-field.field-index (omega arith) c.requires c.loop-field.invariant
 
 pub loop-field-preserved : goal.loop-field-preserved
 loop-field-preserved c =

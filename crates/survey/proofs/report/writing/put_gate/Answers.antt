@@ -5,8 +5,8 @@ use Rattle.survey.specs.Pages.{page_bytes}
 use Rattle.swimlog.specs.Report.{line, place_fields}
 use Rattle.survey.proofs.report.writing.put_gate.Goals as goal
 
-pub put-place-line-requires : goal.put-place-line-requires
-put-place-line-requires c =
+pub put_place_line-requires : goal.put_place_line-requires
+put_place_line-requires c =
     let sizes = c.args.sizes in
     let small = limited sizes.gates sizes.records sizes.limited in
     record { gate = omega arith; room = c.requires.room }
@@ -16,6 +16,6 @@ returns c =
     let tube = c.args.tube.now in
     let with_line : ℕ → ℕ → List ℕ = λ x y. page_bytes c.args.page.now ++ line (decimal c.args.gate) (place_fields (cell tube x) (cell tube y)) in
     record {
-      line = c.put-place-line.ensures.line ∙ ap (λ x. with_line x c.gate-cell-2.result) c.gate_cell.ensures ∙ ap (with_line c.args.gate) c.gate-cell-2.ensures;
-      short = c.put-place-line.ensures.short;
+      line = c.put_place_line.ensures.line ∙ ap (λ x. with_line x c.gate_cell-2.result) c.gate_cell.ensures ∙ ap (with_line c.args.gate) c.gate_cell-2.ensures;
+      short = c.put_place_line.ensures.short;
     }

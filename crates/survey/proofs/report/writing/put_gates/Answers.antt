@@ -11,4 +11,4 @@ loop-gate-preserved c =
     let tube = c.args.tube.now in
     let gate = c.loop-gate.gate in
     let before = page_bytes c.args.page.now in
-    (put_both before (page_bytes c.loop-gate.page) (page_bytes c.put-gate.new.page) (gate_lines gates tube gate) (gate_line gates tube gate) c.loop-gate.invariant.0 c.put-gate.ensures.line ∙ ap (λ l. before ++ l) (sym (gate_lines_more gates tube gate)), omega (arith, c.put-gate.ensures.short, c.loop-gate.invariant.1))
+    (put_both before (page_bytes c.loop-gate.page) (page_bytes c.put_gate.new.page) (gate_lines gates tube gate) (gate_line gates tube gate) c.loop-gate.invariant.0 c.put_gate.ensures.line ∙ ap (λ l. before ++ l) (sym (gate_lines_more gates tube gate)), omega (arith, c.put_gate.ensures.short, c.loop-gate.invariant.1))

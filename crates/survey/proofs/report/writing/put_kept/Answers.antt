@@ -6,17 +6,17 @@ use Rattle.swimlog.specs.Report.{line, mark_word}
 use Rattle.survey.proofs.Lengths.{kept_line_short}
 use Rattle.survey.proofs.report.writing.put_kept.Goals as goal
 
-pub put-kept-line-requires : goal.put-kept-line-requires
-put-kept-line-requires c = omega (arith, ap length c.requires, kept_line_short c.args.calls c.args.mark (omega arith))
+pub put_kept_line-requires : goal.put_kept_line-requires
+put_kept_line-requires c = omega (arith, ap length c.requires, kept_line_short c.args.calls c.args.mark (omega arith))
 
-pub put-gates-requires : goal.put-gates-requires
-put-gates-requires c =
+pub put_gates-requires : goal.put_gates-requires
+put_gates-requires c =
     let sizes = c.args.sizes in
     let small = limited sizes.gates sizes.records sizes.limited in
     omega (
       arith,
       ap length c.requires,
-      ap length c.put-kept-line.ensures,
+      ap length c.put_kept_line.ensures,
       length-append (page_bytes c.args.page.now) (line (codes "kept") (decimal c.args.calls ∷ mark_word c.args.mark ∷ [])),
       kept_line_short c.args.calls c.args.mark (omega arith),
     )

@@ -7,14 +7,14 @@ use Rattle.survey.proofs.report.writing.put_line.Goals as goal
 pub put-requires : goal.put-requires
 put-requires c = room_first c.args.page.now c.args.word.now (spaced (map decimal c.args.fields.now) ++ (line_end ∷ [])) c.requires
 
-pub put-fields-requires : goal.put-fields-requires
-put-fields-requires c = room_middle c.args.page.now c.args.word.now (spaced (map decimal c.args.fields.now)) (line_end ∷ []) c.requires c.put.new.self c.put.ensures
+pub put_fields-requires : goal.put_fields-requires
+put_fields-requires c = room_middle c.args.page.now c.args.word.now (spaced (map decimal c.args.fields.now)) (line_end ∷ []) c.requires c.put.new.self c.put.ensures
 
-pub put-byte-requires : goal.put-byte-requires
-put-byte-requires c =
-    room_last c.args.page.now c.args.word.now (spaced (map decimal c.args.fields.now)) (line_end ∷ []) c.requires c.put.new.self c.put.ensures c.put-fields.new.page c.put-fields.ensures
+pub put_byte-requires : goal.put_byte-requires
+put_byte-requires c =
+    room_last c.args.page.now c.args.word.now (spaced (map decimal c.args.fields.now)) (line_end ∷ []) c.requires c.put.new.self c.put.ensures c.put_fields.new.page c.put_fields.ensures
 
 pub returns : goal.returns
 returns c =
-    put_all (page_bytes c.args.page.now) (page_bytes c.put.new.self) (page_bytes c.put-fields.new.page) (page_bytes c.put-byte.new.self)
-    c.args.word.now (spaced (map decimal c.args.fields.now)) (line_end ∷ []) c.put.ensures c.put-fields.ensures c.put-byte.ensures
+    put_all (page_bytes c.args.page.now) (page_bytes c.put.new.self) (page_bytes c.put_fields.new.page) (page_bytes c.put_byte.new.self)
+    c.args.word.now (spaced (map decimal c.args.fields.now)) (line_end ∷ []) c.put.ensures c.put_fields.ensures c.put_byte.ensures

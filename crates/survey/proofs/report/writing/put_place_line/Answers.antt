@@ -17,23 +17,23 @@ y_small c = record { low = search rules; high = search rules }
 room : (c : Start) → Room c.args.page.now (line (decimal c.args.gate) (place_fields c.args.x c.args.y))
 room c = gate_line_room c.args.page.now c.args.gate c.args.x c.args.y c.requires.gate (x_small c) (y_small c) c.requires.room
 
-pub put-number-requires : goal.put-number-requires
-put-number-requires c = room_first c.args.page.now (decimal c.args.gate) (spaced (place_fields c.args.x c.args.y) ++ (line_end ∷ [])) (room (goal.at.put-number-requires c).Start)
+pub put_number-requires : goal.put_number-requires
+put_number-requires c = room_first c.args.page.now (decimal c.args.gate) (spaced (place_fields c.args.x c.args.y) ++ (line_end ∷ [])) (room (goal.at.put_number-requires c).Start)
 
-pub put-place-requires : goal.put-place-requires
-put-place-requires c = room_middle c.args.page.now (decimal c.args.gate) (spaced (place_fields c.args.x c.args.y)) (line_end ∷ []) (room (goal.at.put-place-requires c).Start) c.put-number.new.self c.put-number.ensures
+pub put_place-requires : goal.put_place-requires
+put_place-requires c = room_middle c.args.page.now (decimal c.args.gate) (spaced (place_fields c.args.x c.args.y)) (line_end ∷ []) (room (goal.at.put_place-requires c).Start) c.put_number.new.self c.put_number.ensures
 
-pub put-byte-requires : goal.put-byte-requires
-put-byte-requires c =
-    room_last c.args.page.now (decimal c.args.gate) (spaced (place_fields c.args.x c.args.y)) (line_end ∷ []) (room (goal.at.put-byte-requires c).Start) c.put-number.new.self c.put-number.ensures c.put-place.new.page c.put-place.ensures
+pub put_byte-requires : goal.put_byte-requires
+put_byte-requires c =
+    room_last c.args.page.now (decimal c.args.gate) (spaced (place_fields c.args.x c.args.y)) (line_end ∷ []) (room (goal.at.put_byte-requires c).Start) c.put_number.new.self c.put_number.ensures c.put_place.new.page c.put_place.ensures
 
 pub returns : goal.returns
 returns c =
     let before = page_bytes c.args.page.now in
     let gate_line = line (decimal c.args.gate) (place_fields c.args.x c.args.y) in
-    let put : page_bytes c.put-byte.new.self ≡ before ++ gate_line =
-    put_all before (page_bytes c.put-number.new.self) (page_bytes c.put-place.new.page) (page_bytes c.put-byte.new.self)
-    (decimal c.args.gate) (spaced (place_fields c.args.x c.args.y)) (line_end ∷ []) c.put-number.ensures c.put-place.ensures c.put-byte.ensures
+    let put : page_bytes c.put_byte.new.self ≡ before ++ gate_line =
+    put_all before (page_bytes c.put_number.new.self) (page_bytes c.put_place.new.page) (page_bytes c.put_byte.new.self)
+    (decimal c.args.gate) (spaced (place_fields c.args.x c.args.y)) (line_end ∷ []) c.put_number.ensures c.put_place.ensures c.put_byte.ensures
     in
     record {
       line = put;

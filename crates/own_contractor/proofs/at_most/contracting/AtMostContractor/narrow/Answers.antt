@@ -4,11 +4,11 @@ use Rattle.contractor.specs.Accepting.{accepted_facts}
 use Rattle.own_contractor.specs.AtMosts.{at_most_value}
 use Rattle.own_contractor.proofs.at_most.contracting.AtMostContractor.narrow.Goals as goal
 
-pub interval-at-behind-requires : goal.interval-at-behind-requires
-interval-at-behind-requires c = let a = accepted_facts (at_most_value c.args.self.now) c.args.tube.now c.requires in record { tube = a.tube; within = omega arith }
+pub interval_at-behind-requires : goal.interval_at-behind-requires
+interval_at-behind-requires c = let a = accepted_facts (at_most_value c.args.self.now) c.args.tube.now c.requires in record { tube = a.tube; within = omega arith }
 
-pub interval-at-ahead-requires : goal.interval-at-ahead-requires
-interval-at-ahead-requires c = let a = accepted_facts (at_most_value c.args.self.now) c.args.tube.now c.requires in record { tube = a.tube; within = omega arith }
+pub interval_at-ahead-requires : goal.interval_at-ahead-requires
+interval_at-ahead-requires c = let a = accepted_facts (at_most_value c.args.self.now) c.args.tube.now c.requires in record { tube = a.tube; within = omega arith }
 
 pub bounds-tube-self : goal.bounds-tube-self
 bounds-tube-self c = let a = accepted_facts (at_most_value c.args.self.now) c.args.tube.now c.requires in omega arith
@@ -16,12 +16,12 @@ bounds-tube-self c = let a = accepted_facts (at_most_value c.args.self.now) c.ar
 pub bounds-tube-self-2 : goal.bounds-tube-self-2
 bounds-tube-self-2 c = let a = accepted_facts (at_most_value c.args.self.now) c.args.tube.now c.requires in simp length-set (omega arith)
 
-pub offset-bounds-tube-self : goal.offset-bounds-tube-self
-offset-bounds-tube-self c =
+pub offset_bounds-tube-self : goal.offset_bounds-tube-self
+offset_bounds-tube-self c =
     let a = accepted_facts (at_most_value c.args.self.now) c.args.tube.now c.requires in
     record { fits = omega (arith, (tube c.args.tube.now a.tube).few) }
 
-pub offset-bounds-tube-self-2 : goal.offset-bounds-tube-self-2
-offset-bounds-tube-self-2 c =
+pub offset_bounds-tube-self-2 : goal.offset_bounds-tube-self-2
+offset_bounds-tube-self-2 c =
     let a = accepted_facts (at_most_value c.args.self.now) c.args.tube.now c.requires in
     record { fits = omega (arith, (tube c.args.tube.now a.tube).few) }
