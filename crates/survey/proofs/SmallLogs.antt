@@ -1,8 +1,8 @@
 -- A swim that obeys the first of the small logs. Assumes nothing.
-use Rattle.std.proofs.Common.{◌≡◌, ℕ, zero, suc, ◌+◌, ◌<◌, ℤ, pos, ◌+ℤ◌, Some, Option, sym, refl, subst, arith}
+use Rattle.std.proofs.Common.{◌≡◌, ℕ, zero, suc, ◌+◌, ◌<◌, ◌+ℤ◌, Some, Option, refl, subst, arith}
 use Rattle.std.proofs.lemmas.Int.{ints}
-use Rattle.tube.specs.Tubes.{In, row}
-use Rattle.swimlog.specs.Format.{records_of, head_of, body_of}
+use Rattle.tube.specs.Tubes.{In}
+use Rattle.swimlog.specs.Format.{head_of, body_of}
 use Rattle.swimlog.specs.Records.{kind_of}
 use Rattle.swimlog.specs.declared.field.Head.{Head}
 use Rattle.swimlog.specs.declared.field.Body.{Body}

@@ -1,5 +1,5 @@
 -- Swims, when one obeys a log, and what a report is worth: no swim that obeys the log is missing from it. Assumes nothing.
-use Rattle.std.specs.Prelude.{◌≡◌, ℕ, ◌+◌, ◌<◌, List, ℤ, ◌+ℤ◌, ◌-ℤ◌, ◌≤ℤ◌, Some}
+use Rattle.std.specs.Prelude.{◌≡◌, ℕ, ◌+◌, ◌<◌, List, ℤ, ◌+ℤ◌, ◌-ℤ◌, Some}
 use Rattle.tube.specs.Tubes.{In, row, cell}
 use Rattle.constraint.specs.Hulls.{square}
 use Rattle.swimlog.specs.Format.{gates_of, records_of, head_of, body_of}

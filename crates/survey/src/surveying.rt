@@ -44,9 +44,9 @@ fn widest_table() -> [Row; MAX_CELLS]
 
 // What a contractor makes of a tube of which nothing is known.
 fn report_by<C: Contractor>(contractor: &mut C, sizes: Sizes) -> Report
-    requires { first_refusal (value contractor.old) (first_tube sizes.gates) ≡ None }
-    ensures reported { Reported (value contractor.old) sizes result }
-    ensures fair { Fair (value contractor.old) (first_tube sizes.gates) ((value contractor.old).narrowed (first_tube sizes.gates)) }
+    requires { first_refusal (C.value contractor.old) (first_tube sizes.gates) ≡ None }
+    ensures reported { Reported (C.value contractor.old) sizes result }
+    ensures fair { Fair (C.value contractor.old) (first_tube sizes.gates) ((C.value contractor.old).narrowed (first_tube sizes.gates)) }
 {
     let mut tube = widest_table();
     match use_on_track(contractor, &mut tube[0..sizes.cells()]) {

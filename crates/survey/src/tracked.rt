@@ -59,9 +59,9 @@ fn commit(proposal: Proposal, table: &mut [Row], work: &[Row]) -> u64
 
 // Uses a contractor on a tube, by a proposal that is committed, or closed where it is emptied.
 pub(crate) fn use_on_track<C: Contractor>(contractor: &mut C, table: &mut [Row]) -> Ending
-    requires { first_refusal (value contractor.old) table.old ≡ None }
-    ensures ended { Ended (value contractor.old) table.old table.new result }
-    ensures fair { Fair (value contractor.old) table.old ((value contractor.old).narrowed table.old) }
+    requires { first_refusal (C.value contractor.old) table.old ≡ None }
+    ensures ended { Ended (C.value contractor.old) table.old table.new result }
+    ensures fair { Fair (C.value contractor.old) table.old ((C.value contractor.old).narrowed table.old) }
 {
     let mut rows = [Row { low: 0, high: 0 }; MAX_CELLS];
     let work = &mut rows[0..table.len()];
