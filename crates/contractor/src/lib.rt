@@ -12,5 +12,3 @@ pub use build::BuildRefusal;
 pub use contractor::Contractor;
 pub use layers::{Both, Either, Repeat, Rounds};
 pub use refusal::{MAX_CALLS, MAX_LAYERS, UseRefusal};
-
-// The impls, which another crate imports by name where it uses them.
