@@ -1,6 +1,6 @@
 -- Where a constraint's cells lie, and that it changes no other cell. Assumes nothing.
 use Rattle.std.proofs.Common.{◌≡◌, ℕ, ◌<◌, ◌≤◌, ◌≢◌, List, set, Some, None, Option, refl, ◌∙◌, arith}
-use Rattle.std.specs.List.{AllByRecursion as All}
+use Rattle.std.specs.List.{AllByRecursion}
 use Rattle.std.proofs.lemmas.List.{get_or-set_other}
 use Rattle.std.proofs.lemmas.Bool.{leb-true}
 use Rattle.std.proofs.lemmas.Bool.Decides.{nat_tests}
@@ -16,7 +16,7 @@ use Rattle.constraint.specs.declared.constraint.Constraint.TheVariants.{Bound as
 use Rattle.constraint.specs.Places.{ranged_from}
 
 -- each is a cell that a tube can have
-pub cells_placed : (k : Constraint) → All (λ c. c ≤ last_cell) (constraint_cells k)
+pub cells_placed : (k : Constraint) → AllByRecursion (λ c. c ≤ last_cell) (constraint_cells k)
 cells_placed (of_bound k) = (leb-true _ _ k.placed, tt)
 cells_placed (of_step k) = let placed = k.placed in (grind (arith, nat_tests), (grind (arith, nat_tests), (grind (arith, nat_tests), tt)))
 cells_placed (of_range k) =
@@ -24,7 +24,7 @@ cells_placed (of_range k) =
     (leb-true _ _ r.x_cell, (leb-true _ _ r.y_cell, tt))
 
 -- each is a cell of every tube that the constraint can be used on
-pub cells_needed : (k : Constraint) → All (λ c. c < (constraint_value k).need) (constraint_cells k)
+pub cells_needed : (k : Constraint) → AllByRecursion (λ c. c < (constraint_value k).need) (constraint_cells k)
 cells_needed (of_bound k) = (omega arith, tt)
 cells_needed (of_step k) = (omega arith, (omega arith, (omega arith, tt)))
 cells_needed (of_range k) = (omega arith, (omega arith, tt))
@@ -50,7 +50,7 @@ module _ (t : List Row) (d : ℕ) where
   by_axes number x y (Some v) None nx ny = refl
   by_axes number x y (Some v) (Some w) nx ny = get_or-set_other (set t x v) y d w nowhere ny ∙ get_or-set_other t x d v nowhere nx
 
-  pub constraint_confined : (k : Constraint) → All (λ c. d ≢ c) (constraint_cells k) → Untouched ((constraint_value k).narrowed t)
+  pub constraint_confined : (k : Constraint) → AllByRecursion (λ c. d ≢ c) (constraint_cells k) → Untouched ((constraint_value k).narrowed t)
   constraint_confined (of_bound k) ne = by_cut k.number k.cell (cut (cell t k.cell) k.span.low k.span.high) ne.0
   constraint_confined (of_step k) ne = by_sum k.number k.from k.by k.to (summed (cell t k.from) (cell t k.by) (cell t k.to)) ne.0 ne.1.0 ne.1.1.0
   constraint_confined (of_range k) ne =

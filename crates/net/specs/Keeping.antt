@@ -1,7 +1,7 @@
 -- A net of records that keep the meaning keeps it. Assumes nothing.
 use Rattle.std.specs.Prelude.{◌≡◌, ℕ, ◌+◌, ◌*◌, ◌≤◌, false, List, [], ◌∷◌, length}
 use Rattle.std.proofs.Common.{sym, subst, mul-le-mul, le-mul_of_pos_right, arith}
-use Rattle.std.specs.List.{AllByRecursion as All}
+use Rattle.std.specs.List.{AllByRecursion}
 use Rattle.tube.specs.Tubes.{Trajectory, most_cells, single}
 use Rattle.tube.specs.declared.row.Row.{Row}
 use Rattle.contractor.specs.Answers.{IsEmpty}
@@ -10,7 +10,7 @@ use Rattle.net.specs.Nets.{Part, all_obeyed, greatest_need, positions, net, Reco
 use Rattle.contractor.specs.Accepting.{Accepts, accepted_facts}
 use Rattle.net.specs.Runs.{ran, first_pass, from_start}
 
-need_bounded : (ks : List Part) → All Recorded ks → greatest_need ks ≤ most_cells + 1
+need_bounded : (ks : List Part) → AllByRecursion Recorded ks → greatest_need ks ≤ most_cells + 1
 need_bounded [] r = omega arith
 need_bounded (k ∷ ks) r = omega (arith, r.0.keeps.need, need_bounded ks r.1)
 
@@ -18,7 +18,7 @@ need_bounded (k ∷ ks) r = omega (arith, r.0.keeps.need, need_bounded ks r.1)
 enough_uses : (ks : List Part) (rounds : ℕ) → 1 ≤ rounds → length ks ≤ length ks * rounds
 enough_uses ks rounds some = le-mul_of_pos_right (length ks) some
 
-module _ (ks : List Part) (rounds : ℕ) (r : All Recorded ks) (some : 1 ≤ rounds) where
+module _ (ks : List Part) (rounds : ℕ) (r : AllByRecursion Recorded ks) (some : 1 ≤ rounds) where
   decides : (p : Trajectory) → Accepts (net ks rounds) (single p) → all_obeyed ks p ≡ false → IsEmpty ((net ks rounds).narrowed (single p)).answer.verdict
   decides p facts disobeyed = first_pass ks ks 0 (length ks * rounds) 0 p (from_start ks) r facts.tube facts.need (enough_uses ks rounds some) disobeyed
 

@@ -1,6 +1,6 @@
 -- A net: records that wait in a queue to be used again. Assumes nothing.
 use Rattle.std.specs.Prelude.{◌≡◌, ℕ, zero, suc, ◌+◌, ◌*◌, ◌≤◌, max, Bool, true, false, cond, not, ◌&&◌, ◌||◌, List, [], ◌∷◌, ◌++◌, map, length, ◌==◌}
-use Rattle.std.specs.List.{AllByRecursion as All}
+use Rattle.std.specs.List.{AllByRecursion}
 use Rattle.tube.specs.Tubes.{Trajectory, cell}
 use Rattle.tube.specs.declared.row.Row.{Row}
 use Rattle.contractor.specs.Answers.{kept, emptied}
@@ -115,4 +115,4 @@ pub record Recorded (k : Part) : Type 0 where
 
 -- A net of any such records keeps the meaning of a contractor.
 abbrev pub NetsKeep : Type 0
-NetsKeep = (ks : List Part) (rounds : ℕ) → All Recorded ks → length ks ≤ most_records → 1 ≤ rounds → rounds ≤ most_rounds → Keeps (net ks rounds)
+NetsKeep = (ks : List Part) (rounds : ℕ) → AllByRecursion Recorded ks → length ks ≤ most_records → 1 ≤ rounds → rounds ≤ most_rounds → Keeps (net ks rounds)

@@ -1,6 +1,6 @@
 -- Contractors piled under the layers in any order and depth, what each pile's value is, and that every pile keeps the meaning. Assumes nothing.
 use Rattle.std.specs.Prelude.{ℕ, ◌≤◌, List, length}
-use Rattle.std.specs.List.{AllByRecursion as All}
+use Rattle.std.specs.List.{AllByRecursion}
 use Rattle.contractor.specs.Compositions.{both}
 use Rattle.contractor.specs.Contractors.{Value, Keeps}
 use Rattle.contractor.specs.Counts.{most_rounds}
@@ -32,7 +32,7 @@ Built (alone v) = Keeps v
 Built (both_of p q) = Built p × Built q
 Built (either_of p q) = Built p × Built q
 Built (repeat_of r p) = Rounds r × Built p
-Built (net_of ks r) = All Recorded ks × (length ks ≤ most_records) × Rounds r
+Built (net_of ks r) = AllByRecursion Recorded ks × (length ks ≤ most_records) × Rounds r
 
 abbrev pub PilesKeep : Type 0
 PilesKeep = (p : Pile) → Built p → Keeps (value_of p)

@@ -1,6 +1,6 @@
 -- The queue of the records that wait, as it stands in a ring. Assumes nothing.
 use Rattle.std.specs.Prelude.{◌≡◌, ℕ, zero, suc, ◌+◌, ◌%◌, ◌<◌, Bool, false, cond, List, [], ◌∷◌, ◌++◌, Some, None, Option, slice_index, slice_index_or}
-use Rattle.std.specs.List.{AllByRecursion as All}
+use Rattle.std.specs.List.{AllByRecursion}
 use Rattle.net.specs.Nets.{waits, most_records}
 use Rattle.net.specs.declared.waiting.Waiting.{Waiting}
 
@@ -19,7 +19,7 @@ Apart (i ∷ q) = (waits i q ≡ false) × Apart q
 
 -- every position lies below n
 abbrev pub Below : ℕ → List ℕ → Type 0
-Below n = All (λ i. i < n)
+Below n = AllByRecursion (λ i. i < n)
 
 -- the marks tell who waits in the queue
 abbrev pub Marked : List Bool → List ℕ → Type 0

@@ -1,7 +1,7 @@
 -- The run of a net in code: what is known as each turn begins, and how a turn ends. Assumes nothing.
 use Rattle.std.specs.Prelude.{◌≡◌, ℕ, suc, ◌+◌, ◌-◌, ◌<◌, ◌≤◌, Bool, true, List, [], ◌∷◌, ◌++◌, map, length, get_or, slice_index_or, refl}
 use Rattle.std.proofs.Common.{sym, ap, subst, ◌∙◌, arith}
-use Rattle.std.specs.List.{AllByRecursion as All}
+use Rattle.std.specs.List.{AllByRecursion}
 use Rattle.std.proofs.lemmas.List.{length-map, get_or-map}
 use Rattle.tube.specs.Tubes.{is_tube}
 use Rattle.tube.specs.declared.row.Row.{Row}
@@ -35,7 +35,7 @@ constraint_recorded (of_bound k) = record { keeps = constraint_keeps (of_bound k
 constraint_recorded (of_step k) = record { keeps = constraint_keeps (of_step k); height = refl; calls = refl }
 constraint_recorded (of_range k) = record { keeps = constraint_keeps (of_range k); height = refl; calls = refl }
 
-pub all_recorded : (ks : List Constraint) → All Recorded (parts ks)
+pub all_recorded : (ks : List Constraint) → AllByRecursion Recorded (parts ks)
 all_recorded [] = tt
 all_recorded (k ∷ ks) = (constraint_recorded k, all_recorded ks)
 

@@ -1,7 +1,7 @@
 -- The run of a net: what it keeps, and what it does on a tube of one trajectory. Assumes nothing.
 use Rattle.std.specs.Prelude.{◌≡◌, ℕ, zero, suc, ◌+◌, ◌≤◌, true, false, ◌&&◌, List, [], ◌∷◌, ◌++◌, length, refl}
 use Rattle.std.proofs.Common.{sym, ap, subst, ◌∙◌, ⊎_elim, append-nil, not-suc-le-zero, le_of_suc-le-suc, add-zero, arith}
-use Rattle.std.specs.List.{AllByRecursion as All}
+use Rattle.std.specs.List.{AllByRecursion}
 use Rattle.std.proofs.lemmas.Bool.{true≢false, cases_Bool}
 use Rattle.tube.specs.Tubes.{Trajectory, is_tube, Lies, Inside, single}
 use Rattle.tube.specs.declared.row.Row.{Row}
@@ -62,7 +62,7 @@ after_use ks left i q t calls (Empty f) e this later =
       placed = (omega (arith, placed.0), placed.1);
     })
 
-pub ran : (ks : List Part) (left : ℕ) (q : List ℕ) (t : List Row) (calls : ℕ) → All Recorded ks → is_tube t ≡ true → greatest_need ks ≤ length t → Ran ks t (calls + left) (spun ks left q t calls)
+pub ran : (ks : List Part) (left : ℕ) (q : List ℕ) (t : List Row) (calls : ℕ) → AllByRecursion Recorded ks → is_tube t ≡ true → greatest_need ks ≤ length t → Ran ks t (calls + left) (spun ks left q t calls)
 ran ks zero q t calls r tube enough = record { tube = tube; inside = inside_same t; loses_none = λ p l o. (l, tt); calls = omega arith; placed = tt }
 ran ks (suc left) [] t calls r tube enough = record { tube = tube; inside = inside_same t; loses_none = λ p l o. (l, tt); calls = omega arith; placed = tt }
 ran ks (suc left) (i ∷ q) t calls r tube enough =
@@ -107,7 +107,7 @@ by_verdict ks k rest i left calls p (Kept m) here e fair o later =
 by_verdict ks k rest i left calls p (Empty f) here e fair o later =
     subst (λ u. IsEmpty u.answer.verdict) (sym (spun_empty ks left i (positions (i + 1) (length rest)) (single p) calls f (ap (λ u. u.answer.verdict) here ∙ e))) tt
 
-pub first_pass : (ks rest : List Part) (i left calls : ℕ) (p : Trajectory) → From ks i rest → All Recorded rest → is_tube (single p) ≡ true → greatest_need rest ≤ length (single p) → length rest ≤ left → all_obeyed rest p ≡ false → IsEmpty (spun ks left (positions i (length rest)) (single p) calls).answer.verdict
+pub first_pass : (ks rest : List Part) (i left calls : ℕ) (p : Trajectory) → From ks i rest → AllByRecursion Recorded rest → is_tube (single p) ≡ true → greatest_need rest ≤ length (single p) → length rest ≤ left → all_obeyed rest p ≡ false → IsEmpty (spun ks left (positions i (length rest)) (single p) calls).answer.verdict
 first_pass ks [] i left calls p from r tube enough fuel o = absurd (true≢false o)
 first_pass ks (k ∷ rest) i zero calls p from r tube enough fuel o = absurd (not-suc-le-zero fuel)
 first_pass ks (k ∷ rest) i (suc left) calls p from r tube enough fuel o =

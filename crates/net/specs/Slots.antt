@@ -1,7 +1,7 @@
 -- The cells that a constraint mentions, in three slots. Assumes nothing.
 use Rattle.std.specs.Prelude.{◌≡◌, ℕ, ◌+◌, Bool, true, false, cond, not, ◌&&◌, ◌||◌, ◌≢◌, List, [], ◌∷◌, map, length, get_or, ◌==◌, nat_eq, slice_index_or, refl}
 use Rattle.std.proofs.Common.{sym, ap, ap₂, ◌∙◌, arith}
-use Rattle.std.specs.List.{AllByRecursion as All}
+use Rattle.std.specs.List.{AllByRecursion}
 use Rattle.std.proofs.lemmas.Bool.{eqb-true, eqb-false, or_parts}
 use Rattle.tube.specs.Tubes.{most_cells, cell, nowhere}
 use Rattle.tube.specs.declared.row.Row.{Row}
@@ -60,7 +60,7 @@ joining_slots [] i q test = refl
 joining_slots (k ∷ ks) i q test = cc (some_slot test k, joining_slots ks (i + 1) q test)
 
 -- a constraint makes no cell narrower but those that it mentions
-others : (c : ℕ) (cs : List ℕ) → among c cs ≡ false → All (λ d. c ≢ d) cs
+others : (c : ℕ) (cs : List ℕ) → among c cs ≡ false → AllByRecursion (λ d. c ≢ d) cs
 others c [] m = tt
 others c (d ∷ cs) m = let parts = or_parts (c == d) (among c cs) m in (eqb-false c d parts.0, others c cs parts.1)
 

@@ -1,7 +1,7 @@
 -- One use of a record of a net. Assumes nothing.
 use Rattle.std.specs.Prelude.{◌≡◌, ℕ, zero, suc, ◌<◌, ◌≤◌, true, List, [], ◌∷◌, length, get_or, slice_index_or, refl}
 use Rattle.std.proofs.Common.{subst, not-suc-le-zero, le_of_suc-le-suc, arith}
-use Rattle.std.specs.List.{AllByRecursion as All}
+use Rattle.std.specs.List.{AllByRecursion}
 use Rattle.std.proofs.ByRecursion.{All-get_or}
 use Rattle.std.proofs.lemmas.Bool.{and_parts}
 use Rattle.tube.specs.Tubes.{Trajectory, is_tube, Lies, Inside}
@@ -26,7 +26,7 @@ pub record Used (ks : List Part) (t : List Row) (u : Narrowed) : Type 0 where
   pub loses_none : (p : Trajectory) → Lies t p → all_obeyed ks p ≡ true → Lies u.tube p × IsKept u.answer.verdict
   pub placed : Placed 0 (length t) u.answer.verdict
 
-pub used : (ks : List Part) (i : ℕ) (t : List Row) → All Recorded ks → is_tube t ≡ true → greatest_need ks ≤ length t → Used ks t (at_position ks i t)
+pub used : (ks : List Part) (i : ℕ) (t : List Row) → AllByRecursion Recorded ks → is_tube t ≡ true → greatest_need ks ≤ length t → Used ks t (at_position ks i t)
 used [] i t r tube enough = record { tube = tube; inside = inside_same t; loses_none = λ p l o. (l, tt); placed = tt }
 used (k ∷ ks) zero t r tube enough =
     let fair = record_fair k t r.0 tube (omega arith) in
@@ -57,5 +57,5 @@ need_at (k ∷ ks) zero d h = omega arith
 need_at (k ∷ ks) (suc i) d h = omega (arith, need_at ks i d (le_of_suc-le-suc h))
 
 -- a tube that is long enough for the net is so for each of its records
-pub accepted_at : (ks : List Part) (i : ℕ) (d : Part) (t : List Row) → i < length ks → All Recorded ks → is_tube t ≡ true → greatest_need ks ≤ length t → Accepted (get_or ks i d).value t
+pub accepted_at : (ks : List Part) (i : ℕ) (d : Part) (t : List Row) → i < length ks → AllByRecursion Recorded ks → is_tube t ≡ true → greatest_need ks ≤ length t → Accepted (get_or ks i d).value t
 accepted_at ks i d t l r tube enough = record_accepted (slice_index_or ks i d) t (All-get_or Recorded ks i d l r) tube (omega (arith, need_at ks i d l))

@@ -2,7 +2,7 @@
 use Rattle.std.proofs.Common.{◌≡◌, ℕ, zero, suc, ◌-◌, ◌≤◌, true, List, [], ◌∷◌, length, take, replicate, refl, ap, ◌∙◌, arith}
 use native.Mathlib.Nat.{sub-zero}
 use Rattle.std.proofs.lemmas.List.{take-replicate, length-replicate}
-use Rattle.std.specs.List.{AllByRecursion as All}
+use Rattle.std.specs.List.{AllByRecursion}
 use Rattle.tube.proofs.Tables.{tube_from}
 use Rattle.tube.specs.Tubes.{Trajectory, most_cells, all_intervals, is_tube, In, Lies}
 use Rattle.tube.specs.declared.row.Row.{Row}
@@ -31,6 +31,6 @@ first_is_tube gates records small =
     let long = length-replicate (cells_of gates) widest in
     tube_from (first_tube gates) (omega (arith, some_cells gates records small)) (omega (arith, few_cells gates records small)) (all_widest (cells_of gates))
 
-pub all_near : (p : Trajectory) → All (In widest) p → Lies (replicate (length p) widest) p
+pub all_near : (p : Trajectory) → AllByRecursion (In widest) p → Lies (replicate (length p) widest) p
 all_near [] h = tt
 all_near (v ∷ vs) h = (h.0, all_near vs h.1)

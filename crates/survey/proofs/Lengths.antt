@@ -3,7 +3,7 @@ use Rattle.std.proofs.Common.{◌≡◌, ℕ, ◌+◌, ◌*◌, ◌^◌, ◌<◌
 use Rattle.std.proofs.lemmas.Fmt.{length-decimal-le, length_signed_le}
 use Rattle.std.proofs.lemmas.List.{length-append}
 use Rattle.std.specs.Fmt.{signed_decimal}
-use Rattle.std.specs.List.{AllByRecursion as All}
+use Rattle.std.specs.List.{AllByRecursion}
 use Rattle.tube.specs.declared.row.Row.{Row}
 use Rattle.contractor.specs.declared.answer.Mark.{Mark}
 use Rattle.contractor.specs.declared.answer.Mark.TheVariants.{Settled, Stopped}
@@ -73,9 +73,9 @@ kept_line_short calls mark fits =
       twenty_digits calls fits,
     )
 
-fields_short : (fields : List ℕ) → All (λ n. n < 2 ^ 64) fields → length (spaced (map decimal fields)) ≤ 21 * length fields
+fields_short : (fields : List ℕ) → AllByRecursion (λ n. n < 2 ^ 64) fields → length (spaced (map decimal fields)) ≤ 21 * length fields
 fields_short [] h = omega arith
 fields_short (n ∷ fields) h = omega (arith, spaced_length (decimal n) (map decimal fields), twenty_digits n h.0, fields_short fields h.1)
 
-pub line_short : (word fields : List ℕ) → All (λ n. n < 2 ^ 64) fields → length (line word (map decimal fields)) ≤ length word + 21 * length fields + 1
+pub line_short : (word fields : List ℕ) → AllByRecursion (λ n. n < 2 ^ 64) fields → length (line word (map decimal fields)) ≤ length word + 21 * length fields + 1
 line_short word fields h = omega (arith, line_length word (map decimal fields), fields_short fields h)

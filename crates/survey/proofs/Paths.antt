@@ -2,7 +2,7 @@
 use Rattle.std.proofs.Common.{◌≡◌, ℕ, zero, suc, ◌+◌, ◌-◌, ◌*◌, ◌<◌, ◌≤◌, List, [], ◌∷◌, ◌++◌, length, ℤ, pos, refl, ap, ◌∙◌, arith, below_more}
 use Rattle.std.proofs.ByRecursion.{All-append}
 use Rattle.std.proofs.lemmas.List.{length-append, length_push, get_or_append_left, get_or-append_right, get_or_push}
-use Rattle.std.specs.List.{AllByRecursion as All}
+use Rattle.std.specs.List.{AllByRecursion}
 use Rattle.tube.specs.Tubes.{Trajectory, value_at}
 use Rattle.swimlog.specs.Limits.{cells_of}
 use Rattle.swimlog.specs.Records.{gate_cell, step_cell}
@@ -26,7 +26,7 @@ listed_at f (suc n) i h =
     (λ k below. get_or_append_left (listed f n) (f n ∷ []) (pos 0) k (omega (arith, listed_length f n)) ∙ listed_at f n k below)
     (get_or_push (listed f n) (f n) (pos 0) n (listed_length f n)) i (omega arith)
 
-pub all_listed : (P : ℤ → Type 0) (f : ℕ → ℤ) (n : ℕ) → ((i : ℕ) → i < n → P (f i)) → All P (listed f n)
+pub all_listed : (P : ℤ → Type 0) (f : ℕ → ℤ) (n : ℕ) → ((i : ℕ) → i < n → P (f i)) → AllByRecursion P (listed f n)
 all_listed P f zero each = tt
 all_listed P f (suc n) each = All-append P (listed f n) (f n ∷ []) (all_listed P f n (λ i h. each i (omega arith))) (each n (omega arith), tt)
 
@@ -80,7 +80,7 @@ module _ (gates : ℕ) (s : Swim) where
       ∙ ap (value_at (listed (s.step Y) (gates - 1))) (omega arith) ∙ listed_at (s.step Y) (gates - 1) slice (omega arith)
 
   -- what holds of each position and each step holds of every number of the trajectory
-  pub all_path : (P : ℤ → Type 0) → ((axis : Axis) (gate : ℕ) → gate < gates → P (s.position axis gate)) → ((axis : Axis) (slice : ℕ) → slice + 1 < gates → P (s.step axis slice)) → All P path
+  pub all_path : (P : ℤ → Type 0) → ((axis : Axis) (gate : ℕ) → gate < gates → P (s.position axis gate)) → ((axis : Axis) (slice : ℕ) → slice + 1 < gates → P (s.step axis slice)) → AllByRecursion P path
   unfolding path positions steps
   all_path P at_gates on_slices =
       All-append P positions steps

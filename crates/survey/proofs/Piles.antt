@@ -2,7 +2,7 @@
 use Rattle.std.proofs.Common.{◌≡◌, ℕ, ◌+◌, ◌<◌, ◌≤◌, true, List, [], ◌∷◌, map, length, None, Ok, sym, refl, ap, ◌∙◌, subst, ap₂, arith}
 use Rattle.std.proofs.lemmas.List.{length-map, length-replicate}
 use Rattle.std.proofs.lemmas.Bool.Decides.{nat_tests}
-use Rattle.std.specs.List.{AllByRecursion as All}
+use Rattle.std.specs.List.{AllByRecursion}
 use Rattle.tube.specs.Tubes.{is_tube}
 use Rattle.tube.specs.declared.row.Row.{Row}
 use Rattle.contractor.specs.Compositions.{both}
@@ -79,7 +79,7 @@ module _ (bytes : List ℕ) where
       let k = what_is_known (gates_of bytes) (record_constraint (gates_of bytes) j) (head_of bytes j) (body_of bytes (records_of bytes) j) s ok in
       subst (Fits (gates_of bytes)) (sym k.is) (says_fits (gates_of bytes) (record_constraint (gates_of bytes) j) (head_of bytes j) (body_of bytes (records_of bytes) j) k.kind k.placed)
 
-need_fits : (gates : ℕ) (saids : List Said) → All (Fits gates) saids → greatest_need (map said_part saids) ≤ cells_of gates
+need_fits : (gates : ℕ) (saids : List Said) → AllByRecursion (Fits gates) saids → greatest_need (map said_part saids) ≤ cells_of gates
 unfolding Fits
 need_fits gates [] h = omega arith
 need_fits gates (s ∷ ss) h = omega (arith, h.0, need_fits gates ss h.1)

@@ -3,7 +3,7 @@ use Rattle.std.proofs.Common.{◌≡◌, ℕ, ◌+◌, ◌<◌, true, ◌&&◌, 
 use lib.Signed.{le_z, ≤ℤ_refl}
 use Rattle.std.proofs.lemmas.List.{get_or-take}
 use Rattle.std.proofs.lemmas.Bool.{and_from}
-use Rattle.std.specs.List.{AllByRecursion as All}
+use Rattle.std.specs.List.{AllByRecursion}
 use Rattle.tube.proofs.Orders.{int_le_from}
 use Rattle.tube.proofs.Trajectories.{lies_at, lies_length}
 use Rattle.tube.specs.Tubes.{Trajectory, In, row, nowhere, cell, value_at, Lies}
@@ -46,7 +46,7 @@ between low high v w same h = subst (λ x. (le_z low x && le_z x high) ≡ true)
 equal_from : (a b : ℤ) → a ≡ b → (le_z a b && le_z b a) ≡ true
 equal_from a b same = and_from _ _ (int_le_from a b (subst (λ x. a ≤ℤ x) same (≤ℤ_refl a))) (int_le_from b a (subst (λ x. x ≤ℤ a) same (≤ℤ_refl a)))
 
-obeyed_all : (p : Trajectory) (saids : List Said) → All (Obeyed p) saids → all_obeyed (map said_part saids) p ≡ true
+obeyed_all : (p : Trajectory) (saids : List Said) → AllByRecursion (Obeyed p) saids → all_obeyed (map said_part saids) p ≡ true
 unfolding Obeyed
 obeyed_all p [] h = refl
 obeyed_all p (s ∷ ss) h = and_from _ _ h.0 (obeyed_all p ss h.1)

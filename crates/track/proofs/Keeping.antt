@@ -1,7 +1,7 @@
 -- Every history keeps its promises. Assumes nothing.
 use Rattle.std.proofs.Common.{◌≡◌, ℕ, ◌+◌, ◌≤◌, List, [], ◌∷◌, ◌++◌, sym, refl, ap, ◌∙◌, subst, ⊎_elim, arith}
 use Rattle.std.proofs.lemmas.Bool.{cases_Bool}
-use Rattle.std.specs.List.{AllByRecursion as All}
+use Rattle.std.specs.List.{AllByRecursion}
 use Rattle.tube.specs.declared.row.Row.{Row}
 use Rattle.contractor.specs.declared.answer.Fault.{Fault}
 use Rattle.contractor.specs.declared.answer.Verdict.{Verdict}
@@ -13,7 +13,7 @@ use Rattle.contractor.specs.Answers.{IsEmpty, IsKept}
 use Rattle.contractor.specs.Contractors.{Keeps}
 use Rattle.track.specs.Histories.{Standing, resting, proposing, emptied, State, Use, Call, refused, proposed, used, committed, withdrawn, closed, standing_after, Next, History, open_uses, committed_uses, all_uses, copied, Obeys, total_calls, Exact, HistoriesKeep}
 
-all_join : {X : Type 0} (P : X → Type 0) (xs ys : List X) → All P (xs ++ ys) → All P xs × All P ys
+all_join : {X : Type 0} (P : X → Type 0) (xs ys : List X) → AllByRecursion P (xs ++ ys) → AllByRecursion P xs × AllByRecursion P ys
 all_join P [] ys h = (tt, h)
 all_join P (x ∷ xs) ys h = let r = all_join P xs ys h.1 in ((h.0, r.0), r.1)
 
@@ -40,9 +40,9 @@ pub record Inv (first : List Row) (cs : List Call) (s : State) : Type 0 where
   pub none_lost : (p : Trajectory) → Lies first p → Obeys p (committed_uses cs) → Lies s.committed p
   pub narrower : Inside s.committed first
   pub stands : Open s.standing cs s
-  pub exact : (p : Trajectory) → All (λ u. u.on ≡ single p → Exact u p) (all_uses cs)
+  pub exact : (p : Trajectory) → AllByRecursion (λ u. u.on ≡ single p → Exact u p) (all_uses cs)
   pub charged : s.charged ≡ total_calls (all_uses cs)
-  pub ceilings : All (λ u. u.answer.calls ≤ u.contractor.ceiling) (all_uses cs)
+  pub ceilings : AllByRecursion (λ u. u.answer.calls ≤ u.contractor.ceiling) (all_uses cs)
   pub paid : s.charged ≤ s.allowance
 
 going : (cs : List Call) (s : State) → Open s.standing cs s → s.standing ≡ proposing → Going cs s

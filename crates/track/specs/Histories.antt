@@ -1,6 +1,6 @@
 -- A track's history, call by call, and what every history keeps. Assumes nothing.
 use Rattle.std.specs.Prelude.{◌≡◌, ℕ, ◌+◌, ◌≤◌, true, false, List, [], ◌∷◌, ◌++◌, length}
-use Rattle.std.specs.List.{AllByRecursion as All}
+use Rattle.std.specs.List.{AllByRecursion}
 use Rattle.tube.specs.declared.row.Row.{Row}
 use Rattle.contractor.specs.declared.answer.Answer.{Answer}
 use Rattle.contractor.specs.declared.answer.Fault.{Fault}
@@ -118,7 +118,7 @@ copied (withdrawn ∷ cs) = copied cs
 copied (closed ∷ cs) = copied cs
 
 abbrev pub Obeys : Trajectory → List Use → Type 0
-Obeys p us = All (λ u. u.contractor.relation p ≡ true) us
+Obeys p us = AllByRecursion (λ u. u.contractor.relation p ≡ true) us
 
 abbrev pub total_calls : List Use → ℕ
 total_calls [] = 0
@@ -134,9 +134,9 @@ pub record KeptPromises (allowance : ℕ) (first : List Row) (cs : List Call) (s
   pub narrower : Inside s.committed first
   pub truly_empty : (f : Fault) → s.standing ≡ emptied f → (p : Trajectory) → Lies (copied cs) p → Obeys p (open_uses cs) → ⊥
   pub still_committed : (f : Fault) → s.standing ≡ emptied f → s.committed ≡ copied cs
-  pub exact_on_one : (p : Trajectory) → All (λ u. u.on ≡ single p → Exact u p) (all_uses cs)
+  pub exact_on_one : (p : Trajectory) → AllByRecursion (λ u. u.on ≡ single p → Exact u p) (all_uses cs)
   pub all_charged : s.charged ≡ total_calls (all_uses cs)
-  pub under_ceilings : All (λ u. u.answer.calls ≤ u.contractor.ceiling) (all_uses cs)
+  pub under_ceilings : AllByRecursion (λ u. u.answer.calls ≤ u.contractor.ceiling) (all_uses cs)
   pub within_allowance : s.charged ≤ s.allowance
 
 abbrev pub HistoriesKeep : ℕ → List Row → Type 0
