@@ -7,7 +7,7 @@ use Rattle.std.proofs.lemmas.Int.{ints}
 use Rattle.std.proofs.lemmas.Bool.{both_ways, cases_eq, cases_lt}
 use Rattle.tube.specs.Tubes.{row, In}
 use Rattle.tube.specs.declared.row.Row.{Row}
-use Rattle.tube.proofs.Orders.{≤ℤ-antisym, ≤ℤ-trans}
+use Rattle.tube.proofs.Orders.{≤ℤ_antisym, ≤ℤ_trans}
 use Rattle.constraint.specs.Hulls.{first, up_from, down_from, count, between, hull_of}
 
 module _ (P : ℤ → Bool) where
@@ -32,7 +32,7 @@ module _ (P : ℤ → Bool) where
       let b = k.holds s.high h.high_in h.high_passes in
       let c = h.holds s'.low k.low_in k.low_passes in
       let d = h.holds s'.high k.high_in k.high_passes in
-      ap Some (ap (λ x. row x s.high) (≤ℤ-antisym s.low s'.low c.above a.above) ∙ ap (row s'.low) (≤ℤ-antisym s.high s'.high b.below d.below))
+      ap Some (ap (λ x. row x s.high) (≤ℤ_antisym s.low s'.low c.above a.above) ∙ ap (row s'.low) (≤ℤ_antisym s.high s'.high b.below d.below))
 
   -- ---- what looking through the numbers finds
 
@@ -90,7 +90,7 @@ module _ (P : ℤ → Bool) where
   placed r v i =
       let u = distance r.low v i.above in
       let d = distance v r.high i.below in
-      let n = distance r.low r.high (≤ℤ-trans _ _ _ i.above i.below) in
+      let n = distance r.low r.high (≤ℤ_trans _ _ _ i.above i.below) in
       record {
         up = unsigned_abs (v -ℤ r.low);
         down = unsigned_abs (r.high -ℤ v);

@@ -5,12 +5,12 @@ use Rattle.std.proofs.lemmas.Int.{ints}
 use Rattle.tube.specs.Tubes.{Trajectory, row, In, Lies, Within, Inside, single}
 use Rattle.tube.specs.declared.row.Row.{Row}
 
-≤ℤ-both : (a b : ℤ) → a ≤ℤ b → b ≤ℤ a → a ≡ b
-≤ℤ-both a b h k = omega (arith, ints)
+≤ℤ_both : (a b : ℤ) → a ≤ℤ b → b ≤ℤ a → a ≡ b
+≤ℤ_both a b h k = omega (arith, ints)
 
 only_row : (r : Row) (v : ℤ) → Within r (row v v) → In r v → r ≡ row v v
 only_row r v w i =
-    ap (λ low. row low r.high) (≤ℤ-both _ _ i.above w.low) ∙ ap (row v) (≤ℤ-both _ _ w.high i.below)
+    ap (λ low. row low r.high) (≤ℤ_both _ _ i.above w.low) ∙ ap (row v) (≤ℤ_both _ _ w.high i.below)
 
 -- what is left of the tube of one trajectory, where it still holds the trajectory
 pub single_left : (u : List Row) (p : Trajectory) → Inside u (single p) → Lies u p → u ≡ single p

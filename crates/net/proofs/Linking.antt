@@ -31,8 +31,8 @@ after_here (cs ∷ css) c (suc i) l =
     ∙ ap (λ n. cond (among c (get_or css i [])) (suc i) (after (cs ∷ css) c n)) e
 
 -- a record at position i becomes the head of three cells
-get_d_set : (heads : List ℕ) (d i c : ℕ) → d < length heads → get_or (set heads d i) c 0 ≡ cond (eqb c d) i (get_or heads c 0)
-get_d_set heads d i c l =
+get_or_set : (heads : List ℕ) (d i c : ℕ) → d < length heads → get_or (set heads d i) c 0 ≡ cond (eqb c d) i (get_or heads c 0)
+get_or_set heads d i c l =
     ⊎_elim
     (λ e. ap (λ k. get_or (set heads d i) k 0) e ∙ get_or-set_same heads d i 0 l ∙ sym (cond-true _ _ _ (eq-eqb c d e)))
     (λ ne. get_or-set_other heads d c i 0 ne ∙ sym (cond-false _ _ _ (ne_eqb c d ne)))
@@ -59,8 +59,8 @@ module _ (heads : List ℕ) (a b c i : ℕ) where
   three_at la lb lc d =
       let m = length-set heads a i in
       let n = length-set (set heads a i) b i in
-      get_d_set (set (set heads a i) b i) c i d (omega arith)
-      ∙ ap (cond (eqb d c) i) (get_d_set (set heads a i) b i d (omega arith) ∙ ap (cond (eqb d b) i) (get_d_set heads a i d la))
+      get_or_set (set (set heads a i) b i) c i d (omega arith)
+      ∙ ap (cond (eqb d c) i) (get_or_set (set heads a i) b i d (omega arith) ∙ ap (cond (eqb d b) i) (get_or_set heads a i d la))
       ∙ any_of_three (eqb d a) (eqb d b) (eqb d c) i (get_or heads d 0)
 
 pub record Linking (css : List (List ℕ)) (i : ℕ) (heads : List ℕ) (mentions : List Mention) : Type 0 where

@@ -4,13 +4,13 @@ use lib.Signed.{≤ℤ_refl}
 use Rattle.std.proofs.lemmas.List.Elements.{length_all_zip}
 use Rattle.tube.specs.Tubes.{In, Within, Inside, cell}
 use Rattle.tube.specs.declared.row.Row.{Row}
-use Rattle.tube.proofs.Orders.{≤ℤ-trans}
+use Rattle.tube.proofs.Orders.{≤ℤ_trans}
 
 pub within_same : (a : Row) → Within a a
 within_same a = record { low = ≤ℤ_refl _; high = ≤ℤ_refl _ }
 
 pub within_trans : (a b c : Row) → Within a b → Within b c → Within a c
-within_trans a b c h k = record { low = ≤ℤ-trans _ _ _ k.low h.low; high = ≤ℤ-trans _ _ _ h.high k.high }
+within_trans a b c h k = record { low = ≤ℤ_trans _ _ _ k.low h.low; high = ≤ℤ_trans _ _ _ h.high k.high }
 
 pub inside_same : (t : List Row) → Inside t t
 inside_same [] = tt
@@ -36,4 +36,4 @@ inside_set (x ∷ xs) (y ∷ ys) zero r h w = (w, h.1)
 inside_set (x ∷ xs) (y ∷ ys) (suc c) r h w = (h.0, inside_set xs ys c r h.1 w)
 
 pub in_wider : (a b : Row) (v : ℤ) → Within a b → In a v → In b v
-in_wider a b v w i = record { above = ≤ℤ-trans _ _ _ w.low i.above; below = ≤ℤ-trans _ _ _ i.below w.high }
+in_wider a b v w i = record { above = ≤ℤ_trans _ _ _ w.low i.above; below = ≤ℤ_trans _ _ _ i.below w.high }

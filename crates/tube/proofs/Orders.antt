@@ -3,11 +3,11 @@ use Rattle.std.proofs.Common.{◌≡◌, true, false, T, ℤ, ◌≤ℤ◌, sym,
 use lib.Signed.{le_z}
 use Rattle.std.proofs.lemmas.Int.{ints}
 
-pub ≤ℤ-trans : (a b c : ℤ) → a ≤ℤ b → b ≤ℤ c → a ≤ℤ c
-≤ℤ-trans a b c h k = omega (arith, ints)
+pub ≤ℤ_trans : (a b c : ℤ) → a ≤ℤ b → b ≤ℤ c → a ≤ℤ c
+≤ℤ_trans a b c h k = omega (arith, ints)
 
-pub ≤ℤ-antisym : (a b : ℤ) → a ≤ℤ b → b ≤ℤ a → a ≡ b
-≤ℤ-antisym a b h k = omega (arith, ints)
+pub ≤ℤ_antisym : (a b : ℤ) → a ≤ℤ b → b ≤ℤ a → a ≡ b
+≤ℤ_antisym a b h k = omega (arith, ints)
 
 pub int_le_true : (a b : ℤ) → le_z a b ≡ true → a ≤ℤ b
 int_le_true a b e = record { le = subst T (sym e) tt }
