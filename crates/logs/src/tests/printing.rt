@@ -19,7 +19,7 @@ const TWO_GATES: &[u8; 154] = b"\
 #[test]
 fn reports(rt: HostRuntime) -> Result<(), Fail> {
     let kept = two_gates(rt.alloc(), 6, 6)?;
-    assert_eq!(rt; kept.as_slice(), TWO_GATES);
+    assert_eq!(rt; kept.as_slice(), TWO_GATES.as_slice());
     let mut out = Vec::new(rt.alloc());
     write_survey(kept.as_slice(), &mut out)?;
     let empty = two_gates(rt.alloc(), 20, 20)?;
@@ -30,7 +30,7 @@ fn reports(rt: HostRuntime) -> Result<(), Fail> {
     write_survey(&[1, 0, 0, 0], &mut out)?;
     assert_eq!(rt;
         out.as_slice(),
-        b"kept 31 settled\n0 0 0 0 0\n1 4 4 0 0\nempty 6 3 1 340 15\nrefused 17 4 3\nrefused 13 0 0\nkept 0 settled\n0 -536870912 536870912 -536870912 536870912\n"
+        b"kept 31 settled\n0 0 0 0 0\n1 4 4 0 0\nempty 6 3 1 340 15\nrefused 17 4 3\nrefused 13 0 0\nkept 0 settled\n0 -536870912 536870912 -536870912 536870912\n".as_slice()
     );
     Ok(())
 }
