@@ -1,10 +1,12 @@
 -- A repetition keeps the meaning where its part does. Assumes nothing.
 use Rattle.std.specs.Prelude.{◌≡◌, ℕ, zero, suc, ◌+◌, ◌-◌, ◌*◌, ◌<◌, ◌≤◌, Bool, true, false, List, length, Some, None, Option, refl}
 use Rattle.std.proofs.Common.{sym, ap, subst, suc-mul, not-suc-le-zero, arith}
+use Rattle.std.proofs.lemmas.Bool.Decides.{nat_tests}
 use Rattle.tube.specs.declared.row.Row.{Row}
 use Rattle.tube.proofs.Insides.{inside_same}
 use Rattle.contractor.specs.Answers.{IsEmpty}
 use Rattle.contractor.specs.Contractors.{Value, Narrowed, Accepted, Fair, Keeps}
+use Rattle.contractor.specs.Counts.{is_count}
 use Rattle.contractor.specs.Layers.{leaving}
 use Rattle.contractor.specs.Refusals.{most_calls}
 use Rattle.contractor.specs.Repetitions.{repeat_digit, same_rows, round_end, Round, ended_or, rounds, repeat}
@@ -78,6 +80,10 @@ repeat_keeps r v some k = record {
   height = omega arith;
   ceiling = omega arith;
 }
+
+-- the same from the test of a count of rounds
+pub counted_keeps : (r : ℕ) (v : Value) → is_count r ≡ true → Keeps v → Keeps (repeat r v)
+counted_keeps r v counted k = repeat_keeps r v (grind (arith, nat_tests)) k
 
 -- How far a repetition has come, which is the loop's invariant: the rounds left over make of the tube what all rounds make of the tube as it came in.
 -- The part is the same value throughout, v as the use begins and current now.

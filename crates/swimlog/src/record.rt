@@ -1,5 +1,5 @@
 // The records of a swim log, each read to the constraint that it says.
-ghost use Rattle.std.specs.Prelude.{◌≡◌, ◌<◌};
+ghost use Rattle.std.specs.Prelude.{◌<◌};
 ghost use Rattle.swimlog.specs.Logs.{record_in};
 ghost use Rattle.swimlog.specs.Records.{bounds, ranges, says, made, record_says, Reads};
 

@@ -1,6 +1,5 @@
 // Making a bound, and what it does as a contractor.
 ghost use Rattle.std.specs.Prelude.{◌≡◌};
-ghost use Rattle.contractor.specs.Contractors.{Value};
 ghost use Rattle.constraint.specs.Kinds.{bound_value, MadeBound};
 ghost use Rattle.constraint.specs.Mentions.{bound_cells, in_slots};
 ghost use Rattle.constraint.specs.Keeping.{bound_value_keeps};

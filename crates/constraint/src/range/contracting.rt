@@ -1,5 +1,5 @@
 // Making a range, and what it does as a contractor.
-ghost use Rattle.std.specs.Prelude.{◌≡◌, true};
+ghost use Rattle.std.specs.Prelude.{◌≡◌};
 ghost use Rattle.tube.specs.Intervals.{row_of, row_if_any};
 ghost use Rattle.constraint.specs.Constraints.{axis_row, axis_whole, both_whole};
 ghost use Rattle.constraint.specs.Kinds.{range_value, MadeRange};

@@ -1,5 +1,4 @@
 // The composition of two contractors.
-ghost use Rattle.std.specs.Prelude.{◌≡◌};
 ghost use Rattle.contractor.specs.Compositions.{both};
 ghost use Rattle.contractor.specs.Composing.{both_keeps};
 

@@ -5,9 +5,7 @@ ghost use Rattle.contractor.specs.Counts.{most_rounds};
 ghost use Rattle.contractor.specs.Refusals.{most_calls};
 ghost use Rattle.contractor.specs.Repetitions.{same_row, same_rows, Round, repeat};
 ghost use Rattle.contractor.specs.RoundCounts.{count_of};
-ghost use Rattle.std.proofs.Common.{arith};
-ghost use Rattle.std.proofs.lemmas.Bool.Decides.{nat_tests};
-ghost use Rattle.contractor.specs.Repeating.{repeat_keeps};
+ghost use Rattle.contractor.specs.Repeating.{counted_keeps};
 
 use super::rounds::Rounds;
 use super::{capped_calls, height_above, passed_up, use_part};
@@ -75,7 +73,7 @@ fn round<C: Contractor>(
 impl<C: Contractor> Contractor for Repeat<C> {
     ghost value = { λ c. repeat (count_of c.rounds) (C.Contractor.value c.part) };
 
-    ghost keeps = { λ c. let counted = c.rounds.counted in repeat_keeps _ _ (Prim.grind (arith, nat_tests)) (C.Contractor.keeps c.part) };
+    ghost keeps = { λ c. counted_keeps _ _ c.rounds.counted (C.Contractor.keeps c.part) };
 
     fn need(&self) -> usize {
         self.part.need()
