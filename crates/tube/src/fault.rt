@@ -5,14 +5,15 @@ ghost use Rattle.tube.specs.Faults.{number_of, words};
 use std::error::Error;
 use std::fmt;
 
-#[derive(Clone, Copy, Debug, PartialEq)]
+// Each stands at the number by which it is reported.
+#[derive(Clone, Copy, Debug, Eq, PartialEq)]
 pub enum MakingFault {
     // A cell above 511, the last that a tube can have.
-    CellBeyondTube,
+    CellBeyondTube = 1,
     // Two of the constraint's cells are the same one.
-    EqualCells,
+    EqualCells = 2,
     // A value beyond its limits, or ends out of order.
-    BadValue,
+    BadValue = 3,
 }
 
 impl MakingFault {
@@ -20,11 +21,7 @@ impl MakingFault {
     pub fn number(self) -> u8
         ensures { result ≡ number_of self }
     {
-        match self {
-            MakingFault::CellBeyondTube => 1,
-            MakingFault::EqualCells => 2,
-            MakingFault::BadValue => 3,
-        }
+        self as u8
     }
 
     // The fault in words.

@@ -4,7 +4,7 @@ ghost use Rattle.tube.specs.Spans.{spans};
 
 mod operations;
 
-#[derive(Clone, Copy, Debug, PartialEq)]
+#[derive(Clone, Copy, Debug, Eq, PartialEq)]
 pub struct Interval {
     pub low: i32,
     pub high: i32,

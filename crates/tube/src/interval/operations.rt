@@ -1,4 +1,4 @@
-// Making an interval, reading its ends, and cutting it.
+// Making an interval, from numbers or from a row, reading its ends, and cutting it.
 ghost use Rattle.std.specs.Prelude.{◌≡◌};
 ghost use Rattle.tube.specs.Intervals.{row_of, row_if_any, row_if_made, made};
 ghost use Rattle.tube.specs.Tubes.{contains, cut, hull};
@@ -21,12 +21,6 @@ impl Interval {
         }
     }
 
-    pub fn from_row(row: Row) -> Result<Self, MakingFault>
-        ensures { row_if_made result ≡ made row.low row.high }
-    {
-        Interval::new(row.low, row.high)
-    }
-
     pub fn low(self) -> i32
         ensures { result ≡ (row_of self).low }
     {
@@ -37,15 +31,6 @@ impl Interval {
         ensures { result ≡ (row_of self).high }
     {
         self.high
-    }
-
-    pub fn row(self) -> Row
-        ensures { result ≡ row_of self }
-    {
-        Row {
-            low: self.low,
-            high: self.high,
-        }
     }
 
     pub fn contains(self, v: i32) -> bool
@@ -71,9 +56,28 @@ impl Interval {
     pub fn hull(self, other: Self) -> Self
         ensures { row_of result ≡ hull (row_of self) (row_of other) }
     {
-        Interval {
-            low: self.low.min(other.low),
-            high: self.high.max(other.high),
+        let Row { low, high } = Row::from(self).hull(Row::from(other));
+        Interval { low, high }
+    }
+}
+
+impl TryFrom<Row> for Interval {
+    type Error = MakingFault;
+
+    ghost try_from_gives = { λ row r. row_if_made r ≡ made row.low row.high };
+
+    fn try_from(row: Row) -> Result<Self, MakingFault> {
+        Interval::new(row.low, row.high)
+    }
+}
+
+impl From<Interval> for Row {
+    ghost from_gives = { λ i r. r ≡ row_of i };
+
+    fn from(interval: Interval) -> Row {
+        Row {
+            low: interval.low,
+            high: interval.high,
         }
     }
 }
