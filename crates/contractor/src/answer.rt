@@ -1,32 +1,46 @@
 // What a use of a contractor answers.
-ghost use Rattle.std.specs.Prelude.{◌≡◌};
+ghost use Rattle.std.specs.Prelude.{◌≡◌, ◌+◌, ◌*◌, ◌-◌, ◌^◌, ◌<◌, ◌≤◌};
 ghost use Rattle.contractor.specs.Answers.{kept, emptied};
+ghost use Rattle.contractor.specs.Layers.{passed_up};
 
 // Why a tube holds no trajectory of a relation: the kind of the constraint that said so, its number, the cell where nothing is left,
 // and the way through the layers down to it, a digit in base 8 for each layer, the outermost last.
-#[derive(Clone, Copy, Debug, PartialEq)]
+// Neither causes nor digits are enums: contractors and layers of other crates have some of their own.
+#[derive(Clone, Copy, Debug, Eq, PartialEq)]
 pub struct Fault {
-    // Not an enum: contractors of other crates have causes of their own.
     pub cause: u8,
     pub number: u16,
     pub cell: usize,
     pub path: u64,
 }
 
+impl Fault {
+    // The fault as a layer passes it up, with the layer's digit at the end of its path. A pile that is used is never so high that its paths fill up.
+    pub fn passed_up(self, digit: u64) -> Self
+        ensures room { self.path * 8 + digit < 2 ^ 64 → result ≡ passed_up digit self }
+        ensures full { 2 ^ 64 ≤ self.path * 8 + digit → result ≡ record { cause = self.cause; number = self.number; cell = self.cell; path = 2 ^ 64 - 1 } }
+    {
+        Fault {
+            path: self.path.saturating_mul(8).saturating_add(digit),
+            ..self
+        }
+    }
+}
+
 // Settled, or stopped: work was left when an allowance of uses or of rounds ran out.
-#[derive(Clone, Copy, Debug, PartialEq)]
+#[derive(Clone, Copy, Debug, Eq, PartialEq)]
 pub enum Mark {
     Settled,
     Stopped,
 }
 
-#[derive(Clone, Copy, Debug, PartialEq)]
+#[derive(Clone, Copy, Debug, Eq, PartialEq)]
 pub enum Verdict {
     Kept(Mark),
     Empty(Fault),
 }
 
-#[derive(Clone, Copy, Debug, PartialEq)]
+#[derive(Clone, Copy, Debug, Eq, PartialEq)]
 pub struct Answer {
     pub verdict: Verdict,
     pub calls: u64,

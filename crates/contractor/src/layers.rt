@@ -1,12 +1,12 @@
 // The layers: contractors made of contractors.
-ghost use Rattle.std.specs.Prelude.{◌≡◌, ◌+◌, ◌*◌, ◌^◌, ◌<◌, ◌≤◌, true, length};
+ghost use Rattle.std.specs.Prelude.{◌≡◌, ◌≤◌, true, length};
 ghost use Rattle.contractor.specs.Answers.{Placed};
 ghost use Rattle.contractor.specs.Contractors.{Accepted};
-ghost use Rattle.contractor.specs.Layers.{above, capped, passed_up, either_stopped, leaving};
+ghost use Rattle.contractor.specs.Layers.{above, capped, either_stopped, leaving};
 ghost use Rattle.contractor.specs.Refusals.{most_layers, most_calls};
 ghost use Rattle.tube.specs.Tubes.{is_tube};
 
-use crate::answer::{Answer, Fault, Mark};
+use crate::answer::{Answer, Mark};
 use crate::contractor::Contractor;
 use crate::refusal::{MAX_CALLS, MAX_LAYERS};
 use tube::Row;
@@ -45,17 +45,6 @@ fn capped_calls(calls: u64) -> u64
     ensures { result ≡ capped calls }
 {
     calls.min(MAX_CALLS + 1)
-}
-
-// The fault as a layer passes it up, with the layer's digit at the end of its path.
-fn passed_up(fault: Fault, digit: u64) -> Fault
-    requires { fault.path * 8 + digit < 2 ^ 64 }
-    ensures { result ≡ passed_up digit fault }
-{
-    Fault {
-        path: fault.path * 8 + digit,
-        ..fault
-    }
 }
 
 // The mark of two uses that are both kept.

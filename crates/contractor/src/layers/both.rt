@@ -2,7 +2,7 @@
 ghost use Rattle.contractor.specs.Compositions.{both};
 ghost use Rattle.contractor.specs.Composing.{both_keeps};
 
-use super::{capped_calls, either_stopped, height_above, passed_up, use_part};
+use super::{capped_calls, either_stopped, height_above, use_part};
 use crate::answer::{Answer, Verdict};
 use crate::contractor::Contractor;
 use tube::Row;
@@ -39,12 +39,12 @@ impl<A: Contractor, B: Contractor> Contractor for Both<A, B> {
     fn narrow(&mut self, tube: &mut [Row]) -> Answer {
         let first = use_part(&mut self.first, tube);
         match first.verdict {
-            Verdict::Empty(fault) => Answer::empty(passed_up(fault, FIRST), first.calls),
+            Verdict::Empty(fault) => Answer::empty(fault.passed_up(FIRST), first.calls),
             Verdict::Kept(mark) => {
                 let second = use_part(&mut self.second, tube);
                 let calls = first.calls + second.calls;
                 match second.verdict {
-                    Verdict::Empty(fault) => Answer::empty(passed_up(fault, SECOND), calls),
+                    Verdict::Empty(fault) => Answer::empty(fault.passed_up(SECOND), calls),
                     Verdict::Kept(other) => Answer::kept(either_stopped(mark, other), calls),
                 }
             }

@@ -1,10 +1,9 @@
 // The union of two contractors.
 ghost use Rattle.std.specs.Prelude.{◌≡◌, length};
-ghost use Rattle.tube.specs.Tubes.{hull};
 ghost use Rattle.contractor.specs.Unions.{named_fault, hulls, either};
 ghost use Rattle.contractor.specs.Uniting.{either_keeps};
 
-use super::{capped_calls, either_stopped, height_above, passed_up, use_part};
+use super::{capped_calls, either_stopped, height_above, use_part};
 use crate::answer::{Answer, Fault, Verdict};
 use crate::contractor::Contractor;
 use tube::{MAX_CELLS, Row};
@@ -26,23 +25,13 @@ fn named_fault(first: Fault, _second: Fault) -> Fault
     first
 }
 
-// The least row that holds two rows.
-fn hull_of(first: Row, second: Row) -> Row
-    ensures { result ≡ hull first second }
-{
-    Row {
-        low: first.low.min(second.low),
-        high: first.high.max(second.high),
-    }
-}
-
 // Widens each row of the table to the hull of the other table's row and it.
 fn widen(table: &mut [Row], other: &[Row])
     requires { length other.now ≡ length table.old }
     ensures { table.new ≡ hulls other.now table.old }
 {
     for (i, row) in other.iter().enumerate() {
-        table[i] = hull_of(*row, table[i]);
+        table[i] = row.hull(table[i]);
     }
 }
 
@@ -86,7 +75,7 @@ impl<A: Contractor, B: Contractor> Contractor for Either<A, B> {
             (Verdict::Empty(_), Verdict::Kept(mark)) => Answer::kept(mark, calls),
             (Verdict::Empty(fault), Verdict::Empty(other)) => {
                 tube.copy_from_slice(spare);
-                Answer::empty(passed_up(named_fault(fault, other), DIGIT), calls)
+                Answer::empty(named_fault(fault, other).passed_up(DIGIT), calls)
             }
         }
     }

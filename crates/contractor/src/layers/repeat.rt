@@ -3,12 +3,12 @@ ghost use Rattle.std.specs.Prelude.{◌≡◌, ◌*◌, ◌≤◌, length};
 ghost use Rattle.contractor.specs.Contractors.{Accepted};
 ghost use Rattle.contractor.specs.Counts.{most_rounds};
 ghost use Rattle.contractor.specs.Refusals.{most_calls};
-ghost use Rattle.contractor.specs.Repetitions.{same_row, same_rows, Round, repeat};
+ghost use Rattle.contractor.specs.Repetitions.{Round, repeat};
 ghost use Rattle.contractor.specs.RoundCounts.{count_of};
 ghost use Rattle.contractor.specs.Repeating.{counted_keeps};
 
 use super::rounds::Rounds;
-use super::{capped_calls, height_above, passed_up, use_part};
+use super::{capped_calls, height_above, use_part};
 use crate::answer::{Answer, Mark, Verdict};
 use crate::contractor::Contractor;
 use tube::{MAX_CELLS, Row};
@@ -21,25 +21,6 @@ const DIGIT: u64 = 4;
 pub struct Repeat<C> {
     pub rounds: Rounds,
     pub part: C,
-}
-
-fn same_row(first: Row, second: Row) -> bool
-    ensures { result ≡ same_row first second }
-{
-    first.low == second.low && first.high == second.high
-}
-
-// Whether two tables of one length have the same rows.
-fn same_rows(first: &[Row], second: &[Row]) -> bool
-    requires { length first.now ≡ length second.now }
-    ensures { result ≡ same_rows first.now second.now }
-{
-    for (i, row) in first.iter().enumerate() {
-        if !same_row(*row, second[i]) {
-            return false;
-        }
-    }
-    true
 }
 
 // One round, with a spare table as long as the tube: the answer where it is the last, and its calls added to those so far.
@@ -60,13 +41,13 @@ fn round<C: Contractor>(
     *calls += used.calls;
     match used.verdict {
         Verdict::Kept(mark) => {
-            if same_rows(before, tube) {
+            if *before == *tube {
                 Some(Answer::kept(mark, *calls))
             } else {
                 None
             }
         }
-        Verdict::Empty(fault) => Some(Answer::empty(passed_up(fault, DIGIT), *calls)),
+        Verdict::Empty(fault) => Some(Answer::empty(fault.passed_up(DIGIT), *calls)),
     }
 }
 
