@@ -1,10 +1,6 @@
-use Rattle.std.proofs.Common.{◌<◌, refl, arith, rules}
-use Rattle.std.proofs.lemmas.Bool.Decides.{nat_tests}
-use Rattle.contractor.specs.Repeating.{going_none, going_ended, going_more}
+use Rattle.std.proofs.Common.{◌<◌, arith, rules}
+use Rattle.contractor.specs.Repeating.{going_ended, going_more}
 use Rattle.contractor.proofs.layers.repeat.RepeatContractor.narrow.Goals as goal
-
-pub loop-init : goal.loop-init
-loop-init g c = let counted = c.args.self.now.rounds.counted in (refl, going_none _ _ _ (grind (arith, nat_tests)) c.requires)
 
 pub returns-in-Some : goal.returns-in-Some
 returns-in-Some g c =
