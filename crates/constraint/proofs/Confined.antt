@@ -20,7 +20,7 @@ pub cells_placed : (k : Constraint) → AllByRecursion (λ c. c ≤ last_cell) (
 cells_placed (of_bound k) = (leb-true _ _ k.placed, tt)
 cells_placed (of_step k) = let placed = k.placed in (grind (arith, nat_tests), (grind (arith, nat_tests), (grind (arith, nat_tests), tt)))
 cells_placed (of_range k) =
-    let r = ranged_from k.x k.y k.beacon.x k.beacon.y k.nearest k.farthest k.placed in
+    let r = ranged_from k.x k.y k.beacon.x k.beacon.y k.distances.nearest k.distances.farthest k.placed in
     (leb-true _ _ r.x_cell, (leb-true _ _ r.y_cell, tt))
 
 -- each is a cell of every tube that the constraint can be used on
@@ -55,6 +55,6 @@ module _ (t : List Row) (d : ℕ) where
   constraint_confined (of_step k) ne = by_sum k.number k.from k.by k.to (summed (cell t k.from) (cell t k.by) (cell t k.to)) ne.0 ne.1.0 ne.1.1.0
   constraint_confined (of_range k) ne =
       by_axes k.number k.x k.y
-      (x_row k.number k.x k.y k.beacon.x k.beacon.y k.nearest k.farthest t)
-      (y_row k.number k.x k.y k.beacon.x k.beacon.y k.nearest k.farthest t)
+      (x_row k.number k.x k.y k.beacon.x k.beacon.y k.distances.nearest k.distances.farthest t)
+      (y_row k.number k.x k.y k.beacon.x k.beacon.y k.distances.nearest k.distances.farthest t)
       ne.0 ne.1.0

@@ -1,3 +1,4 @@
+pub mod Axes
 pub mod Confined
 pub mod Machine
 pub mod Rings

@@ -19,8 +19,8 @@ step_value_keeps k = step_keeps k.number k.from k.by k.to k.placed
 
 pub range_value_keeps : (k : Range) → Keeps (range_value k)
 range_value_keeps k =
-    let r = ranged_from k.x k.y k.beacon.x k.beacon.y k.nearest k.farthest k.placed in
-    range_keeps k.number k.x k.y k.beacon.x k.beacon.y k.nearest k.farthest r.x_cell r.y_cell
+    let r = ranged_from k.x k.y k.beacon.x k.beacon.y k.distances.nearest k.distances.farthest k.placed in
+    range_keeps k.number k.x k.y k.beacon.x k.beacon.y k.distances.nearest k.distances.farthest r.x_cell r.y_cell
 
 pub constraint_keeps : (k : Constraint) → Keeps (constraint_value k)
 constraint_keeps (of_bound k) = bound_value_keeps k

@@ -38,7 +38,7 @@ MadeStep number from by to (Ok k) = (step_fault from by to ≡ None) × IsStep k
 MadeStep number from by to (Err e) = step_fault from by to ≡ Some e
 
 abbrev pub range_value : Range → Value
-range_value k = range k.number k.x k.y k.beacon.x k.beacon.y k.nearest k.farthest
+range_value k = range k.number k.x k.y k.beacon.x k.beacon.y k.distances.nearest k.distances.farthest
 
 pub record IsRange (k : Range) (number x y : ℕ) (beacon_x beacon_y nearest farthest : ℤ) : Type 0 where
   pub same_number : k.number ≡ number
@@ -46,8 +46,8 @@ pub record IsRange (k : Range) (number x y : ℕ) (beacon_x beacon_y nearest far
   pub same_y : k.y ≡ y
   pub same_beacon_x : k.beacon.x ≡ beacon_x
   pub same_beacon_y : k.beacon.y ≡ beacon_y
-  pub same_nearest : k.nearest ≡ nearest
-  pub same_farthest : k.farthest ≡ farthest
+  pub same_nearest : k.distances.nearest ≡ nearest
+  pub same_farthest : k.distances.farthest ≡ farthest
 
 abbrev pub MadeRange : (number x y : ℕ) (beacon_x beacon_y nearest farthest : ℤ) → Result Range MakingFault → Type 0
 MadeRange number x y beacon_x beacon_y nearest farthest (Ok k) = (range_fault x y beacon_x beacon_y nearest farthest ≡ None) × IsRange k number x y beacon_x beacon_y nearest farthest

@@ -5,6 +5,7 @@ pub mod Makings
 pub mod Mentions
 pub mod Sums
 pub mod Limits
+pub mod MadeDistances
 pub mod Keeping
 pub mod Bounds
 pub mod Fairs

@@ -1,11 +1,13 @@
 -- What is left of three rows, one of which is the sum of the other two. Assumes nothing.
-use Rattle.std.specs.Prelude.{◌≡◌, true, ◌&&◌, ℤ, ◌+ℤ◌, ◌-ℤ◌, ◌≤ℤ◌, Some, None, Option, int_le}
+use Rattle.std.specs.Prelude.{◌≡◌, true, ◌&&◌, ℤ, ◌+ℤ◌, ◌-ℤ◌, ◌≤ℤ◌, Some, None, Option, IsSome, int_le, refl}
 use Rattle.std.proofs.Common.{sym, ap, ap₂, subst, ◌∙◌, arith}
 use Rattle.std.specs.Int.{int_max}
 use Rattle.std.specs.Option.{unwrap_or}
 use Rattle.std.proofs.lemmas.Int.{ints, clamps}
 use Rattle.std.proofs.lemmas.Bool.{and_parts}
+use Rattle.tube.specs.Intervals.{row_if_any}
 use Rattle.tube.specs.Tubes.{Within, cut}
+use Rattle.tube.specs.declared.interval.Interval.{Interval}
 use Rattle.tube.specs.declared.row.Row.{Row}
 use Rattle.tube.proofs.Cuts.{Cut, CutOf, cut_is, cut_whole}
 use Rattle.tube.proofs.Orders.{int_le_true}
@@ -53,14 +55,16 @@ module _ (from by to s : Row) (of : Ordered from) (ob : Ordered by) (left : Some
   k : Cut to (from.low +ℤ by.low) (from.high +ℤ by.high) s
   k = subst (SumCut to from by) (sym left) (cut_is to _ _)
 
-  pub start_left : None ≡ cut_difference from to by → ⊥
-  start_left none = part_left from by to s of ob k.within k.ordered k.above k.below (subst (DifferenceCut from to by) (sym none) (cut_is from _ _))
+  pub start_left : (o : Option Interval) → row_if_any o ≡ cut_difference from to by → IsSome o
+  start_left (Some i) cut = refl
+  start_left None none = absurd (part_left from by to s of ob k.within k.ordered k.above k.below (subst (DifferenceCut from to by) (sym none) (cut_is from _ _)))
 
-  pub added_left : None ≡ cut_difference by to from → ⊥
-  added_left none =
+  pub added_left : (o : Option Interval) → row_if_any o ≡ cut_difference by to from → IsSome o
+  added_left (Some i) cut = refl
+  added_left None none =
       let above = k.above in
       let below = k.below in
-      part_left by from to s ob of k.within k.ordered (omega (arith, ints)) (omega (arith, ints)) (subst (DifferenceCut by to from) (sym none) (cut_is by _ _))
+      absurd (part_left by from to s ob of k.within k.ordered (omega (arith, ints)) (omega (arith, ints)) (subst (DifferenceCut by to from) (sym none) (cut_is by _ _)))
 
 -- three rows that fit are left whole
 fits_whole : (own : Row) (low high : ℤ) → Ordered own → lies_between own low high ≡ true → cut own low high ≡ Some own

@@ -6,7 +6,7 @@ use tube::Interval;
 
 mod contracting;
 
-#[derive(Clone, Copy, Debug, PartialEq)]
+#[derive(Clone, Copy, Debug, Eq, PartialEq)]
 pub struct Bound {
     number: u16,
     cell: u16,

@@ -10,7 +10,7 @@ use crate::step::Step;
 use contractor::{Answer, Contractor};
 use tube::Row;
 
-#[derive(Clone, Copy, Debug, PartialEq)]
+#[derive(Clone, Copy, Debug, Eq, PartialEq)]
 pub enum Constraint {
     Bound(Bound),
     Step(Step),

@@ -2,11 +2,13 @@
 #![tactic(auto)]
 
 mod answers;
+mod axis;
 mod bound;
 mod cells;
 mod constraint;
+mod distances;
+mod limits;
 mod range;
-mod ring;
 mod root;
 mod step;
 mod sum;

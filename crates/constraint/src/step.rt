@@ -5,7 +5,7 @@ ghost use Rattle.constraint.specs.Makings.{are_step_cells};
 mod contracting;
 
 // Cell `to` is cell `from` plus cell `by`.
-#[derive(Clone, Copy, Debug, PartialEq)]
+#[derive(Clone, Copy, Debug, Eq, PartialEq)]
 pub struct Step {
     number: u16,
     from: u16,

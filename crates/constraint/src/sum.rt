@@ -18,18 +18,12 @@ impl Summed {
     pub(crate) fn new(from: Interval, by: Interval, to: Interval) -> Option<Self>
         ensures { rows_if_any result ≡ summed (row_of from) (row_of by) (row_of to) }
     {
-        let sum = with_sum(to, from, by)?;
+        let to_left = with_sum(to, from, by)?;
         // Where the sum has a number left, so have its parts.
-        let Some(start) = with_difference(from, to, by) else {
-            unreachable()
-        };
-        let Some(added) = with_difference(by, to, from) else {
-            unreachable()
-        };
         Some(Summed {
-            from: start,
-            by: added,
-            to: sum,
+            from: with_difference(from, to, by).unwrap(),
+            by: with_difference(by, to, from).unwrap(),
+            to: to_left,
         })
     }
 }

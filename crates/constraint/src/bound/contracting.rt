@@ -62,7 +62,7 @@ impl Contractor for Bound {
         let Some(left) = held.cut(self.span.low, self.span.high) else {
             return empty_at(Bound::CAUSE, self.number, self.cell);
         };
-        tube[self.cell as usize] = left.row();
+        tube[self.cell as usize] = Row::from(left);
         settled()
     }
 }

@@ -1,21 +1,17 @@
 // Making a range, and what it does as a contractor.
 ghost use Rattle.std.specs.Prelude.{◌≡◌};
-ghost use Rattle.tube.specs.Intervals.{row_of, row_if_any};
-ghost use Rattle.constraint.specs.Constraints.{axis_row, axis_whole, both_whole};
 ghost use Rattle.constraint.specs.Kinds.{range_value, MadeRange};
-ghost use Rattle.constraint.specs.Makings.{is_coordinate, are_distances, are_range_values};
+ghost use Rattle.constraint.specs.Makings.{is_coordinate};
 ghost use Rattle.constraint.specs.Mentions.{range_cells, in_slots};
 ghost use Rattle.constraint.specs.Keeping.{range_value_keeps};
 
 use super::{Beacon, Range};
 use crate::answers::{empty_at, settled};
+use crate::axis::Axis;
 use crate::cells::{LAST_CELL, interval_at};
-use crate::ring::{axis, is_axis_whole};
+use crate::distances::Distances;
 use contractor::{Answer, Contractor};
 use tube::{Interval, MakingFault, Row};
-
-// The greatest distance, in millimetres.
-const GREATEST_DISTANCE: i32 = 2 * Interval::REACH;
 
 impl Range {
     // The cause by which its faults tell that it is a range.
@@ -37,16 +33,16 @@ impl Range {
         if x == y {
             return Err(MakingFault::EqualCells);
         }
-        if !are_values(beacon, nearest, farthest) {
+        if !is_coordinate(beacon.x) || !is_coordinate(beacon.y) {
             return Err(MakingFault::BadValue);
         }
+        let distances = Distances::new(nearest, farthest)?;
         Ok(Range {
             number,
             x: x as u16,
             y: y as u16,
             beacon,
-            nearest,
-            farthest,
+            distances,
         })
     }
 
@@ -56,78 +52,6 @@ impl Range {
     {
         [self.x, self.y, self.y]
     }
-
-    // Whether the point's intervals are both left whole.
-    fn is_whole(self, x: Interval, y: Interval) -> bool
-        ensures { result ≡ both_whole self.nearest self.farthest (row_of x) (row_of y) self.beacon.x self.beacon.y }
-    {
-        self.is_x_whole(x, y) && self.is_y_whole(x, y)
-    }
-
-    fn is_x_whole(self, x: Interval, y: Interval) -> bool
-        ensures { result ≡ axis_whole self.nearest self.farthest (row_of x) (row_of y) self.beacon.x self.beacon.y }
-    {
-        is_axis_whole(
-            self.nearest,
-            self.farthest,
-            x,
-            y,
-            self.beacon.x,
-            self.beacon.y,
-        )
-    }
-
-    fn is_y_whole(self, x: Interval, y: Interval) -> bool
-        ensures { result ≡ axis_whole self.nearest self.farthest (row_of y) (row_of x) self.beacon.y self.beacon.x }
-    {
-        is_axis_whole(
-            self.nearest,
-            self.farthest,
-            y,
-            x,
-            self.beacon.y,
-            self.beacon.x,
-        )
-    }
-
-    // What is left of the point's interval on the x axis, and on the y axis.
-    fn x_left(self, x: Interval, y: Interval) -> Option<Interval>
-        ensures { row_if_any result ≡ axis_row self.nearest self.farthest (row_of x) (row_of y) self.beacon.x self.beacon.y }
-    {
-        axis(
-            self.nearest,
-            self.farthest,
-            x,
-            y,
-            self.beacon.x,
-            self.beacon.y,
-        )
-    }
-
-    fn y_left(self, x: Interval, y: Interval) -> Option<Interval>
-        ensures { row_if_any result ≡ axis_row self.nearest self.farthest (row_of y) (row_of x) self.beacon.y self.beacon.x }
-    {
-        axis(
-            self.nearest,
-            self.farthest,
-            y,
-            x,
-            self.beacon.y,
-            self.beacon.x,
-        )
-    }
-}
-
-fn are_values(beacon: Beacon, nearest: i32, farthest: i32) -> bool
-    ensures { result ≡ are_range_values beacon.x beacon.y nearest farthest }
-{
-    is_coordinate(beacon.x) && is_coordinate(beacon.y) && are_distances(nearest, farthest)
-}
-
-fn are_distances(nearest: i32, farthest: i32) -> bool
-    ensures { result ≡ are_distances nearest farthest }
-{
-    0 <= nearest && nearest <= farthest && farthest <= GREATEST_DISTANCE
 }
 
 fn is_coordinate(v: i32) -> bool
@@ -155,20 +79,28 @@ impl Contractor for Range {
 
     fn narrow(&mut self, tube: &mut [Row]) -> Answer {
         // Both are read before either is written.
-        let x = interval_at(tube, self.x);
-        let y = interval_at(tube, self.y);
+        let x = Axis {
+            cell: interval_at(tube, self.x),
+            beacon: self.beacon.x,
+        };
+        let y = Axis {
+            cell: interval_at(tube, self.y),
+            beacon: self.beacon.y,
+        };
+        let x_limits = self.distances.limits(y);
+        let y_limits = self.distances.limits(x);
         // Most uses narrow nothing, and then nothing is written.
-        if self.is_whole(x, y) {
+        if x.is_whole(x_limits) && y.is_whole(y_limits) {
             return settled();
         }
-        let Some(new_x) = self.x_left(x, y) else {
+        let Some(new_x) = x.within(x_limits) else {
             return empty_at(Range::CAUSE, self.number, self.x);
         };
-        let Some(new_y) = self.y_left(x, y) else {
+        let Some(new_y) = y.within(y_limits) else {
             return empty_at(Range::CAUSE, self.number, self.y);
         };
-        tube[self.x as usize] = new_x.row();
-        tube[self.y as usize] = new_y.row();
+        tube[self.x as usize] = Row::from(new_x);
+        tube[self.y as usize] = Row::from(new_y);
         settled()
     }
 }

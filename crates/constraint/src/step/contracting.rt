@@ -69,9 +69,9 @@ impl Contractor for Step {
         let Some(left) = Summed::new(from, by, to) else {
             return empty_at(Step::CAUSE, self.number, self.to);
         };
-        tube[self.to as usize] = left.to.row();
-        tube[self.from as usize] = left.from.row();
-        tube[self.by as usize] = left.by.row();
+        tube[self.to as usize] = Row::from(left.to);
+        tube[self.from as usize] = Row::from(left.from);
+        tube[self.by as usize] = Row::from(left.by);
         settled()
     }
 }

@@ -3,12 +3,12 @@ use Rattle.tube.proofs.Ends.{spanned}
 use Rattle.constraint.specs.SumsLemmas.{start_left, added_left}
 use Rattle.constraint.proofs.sum.Summed.new.Goals as goal
 
-pub unreachable-requires : goal.unreachable-requires
-unreachable-requires c =
+pub unwrap-requires : goal.unwrap-requires
+unwrap-requires c =
     let a = c.args in
-    start_left (row_of a.from) (row_of a.by) (row_of a.to) (row_of c.in_ok-sum.sum) (spanned _ _ a.from.spanned).ordered (spanned _ _ a.by.spanned).ordered c.in_ok-sum.ensures c.in_default.ensures
+    start_left (row_of a.from) (row_of a.by) (row_of a.to) (row_of c.in_ok-to_left.to_left) (spanned _ _ a.from.spanned).ordered (spanned _ _ a.by.spanned).ordered c.in_ok-to_left.ensures _ c.with_difference.ensures
 
-pub unreachable-requires-in_default-with_difference : goal.unreachable-requires-in_default-with_difference
-unreachable-requires-in_default-with_difference c =
+pub unwrap-requires-2 : goal.unwrap-requires-2
+unwrap-requires-2 c =
     let a = c.args in
-    added_left (row_of a.from) (row_of a.by) (row_of a.to) (row_of c.in_ok-sum.sum) (spanned _ _ a.from.spanned).ordered (spanned _ _ a.by.spanned).ordered c.in_ok-sum.ensures c.in_default-with_difference.ensures
+    added_left (row_of a.from) (row_of a.by) (row_of a.to) (row_of c.in_ok-to_left.to_left) (spanned _ _ a.from.spanned).ordered (spanned _ _ a.by.spanned).ordered c.in_ok-to_left.ensures _ c.with_difference-2.ensures

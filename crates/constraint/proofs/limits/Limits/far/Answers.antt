@@ -1,7 +1,7 @@
 use Rattle.std.proofs.Common.{arith}
 use Rattle.std.proofs.lemmas.Int.{ints}
 use Rattle.constraint.specs.Squares.{root_bound, farthest_from}
-use Rattle.constraint.proofs.ring.outer_radius.Goals as goal
+use Rattle.constraint.proofs.limits.Limits.far.Goals as goal
 
 pub overflow_cast-result : goal.overflow_cast-result
 overflow_cast-result c = let b = root_bound c.root.result _ c.root.ensures.below (omega (arith, ints)) in omega (arith, ints)
@@ -9,4 +9,4 @@ overflow_cast-result c = let b = root_bound c.root.result _ c.root.ensures.below
 pub returns : goal.returns
 returns c =
     let b = root_bound c.root.result _ c.root.ensures.below (omega (arith, ints)) in
-    farthest_from c.args.outer _ _ c.root.result (omega (arith, ints)) (omega (arith, ints)) (omega (arith, ints)) c.root.ensures
+    farthest_from c.args.self.outer _ _ c.root.result (omega (arith, ints)) (omega (arith, ints)) (omega (arith, ints)) c.root.ensures

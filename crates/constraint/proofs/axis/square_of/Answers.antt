@@ -1,7 +1,7 @@
 use Rattle.std.proofs.Common.{arith}
 use Rattle.std.proofs.lemmas.Int.{ints}
 use Rattle.constraint.specs.Squares.{square_fits, squared}
-use Rattle.constraint.proofs.ring.square_of.Goals as goal
+use Rattle.constraint.proofs.axis.square_of.Goals as goal
 
 pub overflow_mul-result : goal.overflow_mul-result
 overflow_mul-result c =

@@ -1,7 +1,7 @@
 use Rattle.std.proofs.Common.{arith}
 use Rattle.std.proofs.lemmas.Int.{ints}
 use Rattle.constraint.specs.Squares.{root_bound, nearest_from, nearest_none}
-use Rattle.constraint.proofs.ring.inner_radius.Goals as goal
+use Rattle.constraint.proofs.limits.Limits.near.Goals as goal
 
 pub overflow_cast-result : goal.overflow_cast-result
 overflow_cast-result c = let b = root_bound c.root.result _ c.root.ensures.below (omega (arith, ints)) in omega (arith, ints)
@@ -9,10 +9,10 @@ overflow_cast-result c = let b = root_bound c.root.result _ c.root.ensures.below
 pub overflow_add-result : goal.overflow_add-result
 overflow_add-result c = let b = root_bound c.root.result _ c.root.ensures.below (omega (arith, ints)) in omega (arith, ints)
 
-pub returns-then-inner-le0 : goal.returns-then-inner-le0
-returns-then-inner-le0 c = nearest_none c.args.inner (omega (arith, ints))
+pub returns-then-self-le0 : goal.returns-then-self-le0
+returns-then-self-le0 c = nearest_none c.args.self.inner (omega (arith, ints))
 
-pub returns-else-inner-le0 : goal.returns-else-inner-le0
-returns-else-inner-le0 c =
+pub returns-else-self-le0 : goal.returns-else-self-le0
+returns-else-self-le0 c =
     let b = root_bound c.root.result _ c.root.ensures.below (omega (arith, ints)) in
-    nearest_from c.args.inner _ _ c.root.result (omega (arith, ints)) (omega (arith, ints)) (omega (arith, ints)) c.root.ensures
+    nearest_from c.args.self.inner _ _ c.root.result (omega (arith, ints)) (omega (arith, ints)) (omega (arith, ints)) c.root.ensures
