@@ -7,17 +7,8 @@ use Rattle.constraint.specs.Places.{distances}
 use Rattle.constraint.specs.Squares.{squared_as}
 use Rattle.constraint.proofs.distances.Distances.limits.Goals as goal
 
-pub square_of-requires : goal.square_of-requires
-square_of-requires c = let d = distances c.args.self.nearest c.args.self.farthest c.args.self.ordered in record { above = omega (arith, ints); below = omega (arith, ints) }
-
 pub square_of-requires-2 : goal.square_of-requires-2
 square_of-requires-2 c = let d = distances c.args.self.nearest c.args.self.farthest c.args.self.ordered in record { above = omega (arith, ints); below = omega (arith, ints) }
-
-pub overflow_sub-result : goal.overflow_sub-result
-overflow_sub-result c =
-    let k = c.square_of.ensures in
-    let m = c.greatest_square.ensures in
-    omega (arith, ints, k.above, k.below, m.above, m.below)
 
 pub overflow_sub-result-2 : goal.overflow_sub-result-2
 overflow_sub-result-2 c =

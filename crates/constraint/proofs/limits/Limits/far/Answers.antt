@@ -3,9 +3,6 @@ use Rattle.std.proofs.lemmas.Int.{ints}
 use Rattle.constraint.specs.Squares.{root_bound, farthest_from}
 use Rattle.constraint.proofs.limits.Limits.far.Goals as goal
 
-pub overflow_cast-result : goal.overflow_cast-result
-overflow_cast-result c = let b = root_bound c.root.result _ c.root.ensures.below (omega (arith, ints)) in omega (arith, ints)
-
 pub returns : goal.returns
 returns c =
     let b = root_bound c.root.result _ c.root.ensures.below (omega (arith, ints)) in

@@ -1,16 +1,7 @@
 use Rattle.std.proofs.Common.{arith}
 use Rattle.std.proofs.lemmas.Int.{ints}
-use Rattle.constraint.specs.Squares.{root_bound, nearest_from, nearest_none}
+use Rattle.constraint.specs.Squares.{root_bound, nearest_from}
 use Rattle.constraint.proofs.limits.Limits.near.Goals as goal
-
-pub overflow_cast-result : goal.overflow_cast-result
-overflow_cast-result c = let b = root_bound c.root.result _ c.root.ensures.below (omega (arith, ints)) in omega (arith, ints)
-
-pub overflow_add-result : goal.overflow_add-result
-overflow_add-result c = let b = root_bound c.root.result _ c.root.ensures.below (omega (arith, ints)) in omega (arith, ints)
-
-pub returns-then-self-le0 : goal.returns-then-self-le0
-returns-then-self-le0 c = nearest_none c.args.self.inner (omega (arith, ints))
 
 pub returns-else-self-le0 : goal.returns-else-self-le0
 returns-else-self-le0 c =

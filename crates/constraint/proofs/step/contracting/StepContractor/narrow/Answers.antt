@@ -1,11 +1,8 @@
-use Rattle.std.proofs.Common.{◌≡◌, true, sym, refl, ap, ◌∙◌, subst, arith}
-use Rattle.std.proofs.lemmas.List.{length-set}
+use Rattle.std.proofs.Common.{◌≡◌, true, sym, refl, ap, ◌∙◌, subst}
 use Rattle.tube.specs.Intervals.{row_of}
 use Rattle.tube.specs.Tubes.{cell}
 use Rattle.tube.proofs.Ends.{spanned}
-use Rattle.contractor.specs.Accepting.{accepted_facts}
 use Rattle.constraint.specs.Constraints.{all_fit, settled, stepped}
-use Rattle.constraint.specs.Kinds.{step_value}
 use Rattle.constraint.specs.SumsLemmas.{Ordered}
 use Rattle.constraint.proofs.Wholes.{step_whole}
 use Rattle.constraint.proofs.step.contracting.StepContractor.narrow.Goals as goal
@@ -25,12 +22,3 @@ returns-then-all_fit c =
     (subst Ordered c.interval_at-to.ensures (spanned to.low to.high to.spanned).ordered)
     (subst (λ r. all_fit r (cell t k.by) (cell t k.to) ≡ true) c.interval_at-from.ensures (subst (λ r. all_fit (row_of from) r (cell t k.to) ≡ true) c.interval_at-by.ensures (subst (λ r. all_fit (row_of from) (row_of by) r ≡ true) c.interval_at-to.ensures fit))) in
     record { same = refl; answer = ap (λ a. record { answer = a; tube = t }) c.settled.ensures ∙ sym same }
-
-pub bounds-tube-self : goal.bounds-tube-self
-bounds-tube-self c = let f = accepted_facts (step_value c.args.self.now) c.args.tube.now c.requires in omega (arith, f.need)
-
-pub bounds-tube-self-2 : goal.bounds-tube-self-2
-bounds-tube-self-2 c = let f = accepted_facts (step_value c.args.self.now) c.args.tube.now c.requires in simp length-set (omega (arith, f.need))
-
-pub bounds-tube-self-3 : goal.bounds-tube-self-3
-bounds-tube-self-3 c = let f = accepted_facts (step_value c.args.self.now) c.args.tube.now c.requires in simp length-set (omega (arith, f.need))
