@@ -2,7 +2,6 @@
 // a clock outside tells how long that took.
 #![tactic(auto)]
 
-use anyhow::anyhow;
 use constraint::{Bound, Constraint, Step};
 use contractor::{Contractor, Rounds};
 use net::Net;
@@ -15,31 +14,21 @@ const CELLS: usize = 2 * GATES - 1;
 
 const TURNS: u32 = 2_000;
 
-fn push(net: &mut Net, constraint: Constraint) -> anyhow::Result<()> {
-    match net.push(constraint) {
-        Ok(()) => Ok(()),
-        Err(_) => Err(anyhow!("the net is full")),
-    }
-}
-
 fn fill(net: &mut Net) -> anyhow::Result<()> {
     for k in 0..GATES - 1 {
-        push(net, Constraint::Step(Step::new(0, k, GATES + k, k + 1)?))?;
+        net.push(Constraint::Step(Step::new(0, k, GATES + k, k + 1)?))?;
     }
     for k in 0..GATES - 1 {
-        push(net, Constraint::Bound(Bound::new(1, GATES + k, 900, 1100)?))?;
+        net.push(Constraint::Bound(Bound::new(1, GATES + k, 900, 1100)?))?;
     }
     for k in 0..GATES - 1 {
-        push(net, Constraint::Bound(Bound::new(2, k, 0, 200_000)?))?;
+        net.push(Constraint::Bound(Bound::new(2, k, 0, 200_000)?))?;
     }
     Ok(())
 }
 
 fn main(rt: HostRuntime) -> anyhow::Result<()> {
-    let Ok(rounds) = Rounds::new(32) else {
-        return Err(anyhow!("no such number of rounds"));
-    };
-    let mut net = Net::new(rounds);
+    let mut net = Net::new(Rounds::new(32)?);
     fill(&mut net)?;
     let mut uses = 0u64;
     for _ in 0..TURNS {

@@ -8,9 +8,6 @@ use Rattle.constraint.specs.Hulls.{greatest, Squared}
 pub held : (w : Width) (x y : ℤ) → SFits w x → x ≡ y → to_z w (of_z w x) ≡ y
 held w x y f e = to_z-of_z w x f ∙ e
 
-pub held_difference : (w : Width) (a b x y : ℤ) → SFits w a → SFits w b → a ≡ x → b ≡ y → to_z w (of_z w a) -ℤ to_z w (of_z w b) ≡ x -ℤ y
-held_difference w a b x y f g p q = ap (λ z. z -ℤ to_z w (of_z w b)) (held w a x f p) ∙ ap (λ z. x -ℤ z) (held w b y g q)
-
 -- the difference, the greater and the smaller of two squares
 module _ (e d r s : ℤ) (h : Squared e r) (k : Squared d s) where
   pub squares_apart : to_z w64 (of_z w64 (to_z w64 (of_z w64 r) -ℤ to_z w64 (of_z w64 s))) ≡ e -ℤ d

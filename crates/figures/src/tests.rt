@@ -15,10 +15,7 @@ fn refused<C: Contractor>(contractor: &mut C, table: &mut [Row]) -> u8 {
 }
 
 fn idle(need: usize, height: u8, ceiling: u64) -> Result<Idle, Fail> {
-    match Idle::new(need, height, ceiling) {
-        Some(idle) => Ok(idle),
-        None => Err(Fail::new("figures beyond their limits")),
-    }
+    Idle::new(need, height, ceiling).ok_or_else(|| Fail::new("figures beyond their limits"))
 }
 
 #[test]

@@ -5,7 +5,7 @@ ghost use Rattle.own_contractor.specs.Orders.{are_order_cells};
 mod contracting;
 
 // Cell `behind` is at most cell `ahead`.
-#[derive(Clone, Copy, Debug, Drop, PartialEq)]
+#[derive(Clone, Copy, Debug, Drop, Eq, PartialEq)]
 pub struct AtMost {
     number: u16,
     behind: usize,

@@ -1,7 +1,6 @@
 // A contractor of one's own, written outside the library and piled with the library's contractors under its layers.
 #![tactic(auto)]
 
-use anyhow::anyhow;
 use constraint::{Bound, Constraint, Step};
 use contractor::{Both, Contractor, Either, Mark, Repeat, Rounds, Verdict};
 use net::Net;
@@ -27,19 +26,10 @@ fn show(rt: &HostRuntime) -> anyhow::Result<()> {
         &mut behind_diver,
         &mut tube,
     )?;
-    let Ok(rounds) = Rounds::new(5) else {
-        return Err(anyhow!("no such number of rounds"));
-    };
+    let rounds = Rounds::new(5)?;
     let mut moves = Net::new(rounds);
-    if moves
-        .push(Constraint::Step(Step::new(2, 0, 1, 2)?))
-        .is_err()
-        || moves
-            .push(Constraint::Bound(Bound::new(6, 1, 0, 65)?))
-            .is_err()
-    {
-        return Err(anyhow!("no room in the net"));
-    }
+    moves.push(Constraint::Step(Step::new(2, 0, 1, 2)?))?;
+    moves.push(Constraint::Bound(Bound::new(6, 1, 0, 65)?))?;
     let either_time = Either {
         first: Bound::new(3, 3, 30, 40)?,
         second: Bound::new(4, 3, 60, 70)?,

@@ -17,7 +17,7 @@ use Rattle.swimlog.specs.declared.sizes.Sizes.{Sizes}
 abbrev pub said_of : Constraint → Said
 said_of (of_bound k) = bounds k.number k.cell k.span.low k.span.high
 said_of (of_step k) = steps k.number k.from k.by k.to
-said_of (of_range k) = ranges k.number k.x k.y k.beacon.x k.beacon.y k.nearest k.farthest
+said_of (of_range k) = ranges k.number k.x k.y k.beacon.x k.beacon.y k.distances.nearest k.distances.farthest
 
 -- what the records of a net say, in order
 abbrev pub sayings : Net → List Said

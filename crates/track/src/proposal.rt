@@ -47,7 +47,7 @@ impl Proposal {
     fn refusal<C: Contractor>(&self, contractor: &C, work: &[Row]) -> Option<TrackRefusal>
         ensures { result ≡ use_refusal self.now.cells self.now.allowance self.now.charged (C.value contractor.now) work.now }
     {
-        if let Some(refusal) = contractor.refusal(work) {
+        if let Err(refusal) = contractor.check(work) {
             return Some(of_use(refusal));
         }
         if work.len() != self.cells {

@@ -161,9 +161,7 @@ fn five_from(x: i32) -> Result<Range, MakingFault> {
 // Three rounds over a step and a union of two ranges: at most nine calls.
 #[test]
 fn affords(rt: HostRuntime) -> Result<(), Fail> {
-    let Ok(rounds) = Rounds::new(3) else {
-        return Err(Fail::new("three rounds"));
-    };
+    let rounds = Rounds::new(3)?;
     let part = Both {
         first: Step::new(7, 0, 1, 2)?,
         second: Either {

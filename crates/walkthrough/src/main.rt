@@ -71,11 +71,11 @@ fn narrow_once(
 ) -> anyhow::Result<(u64, bool)> {
     let mut calls = 0u64;
     let mut changed = false;
-    for number in 0..records.len() {
+    for (number, record) in records.iter().enumerate() {
         let text = says(number);
         println!(rt; "  {text}:")?;
         let before = tube.to_vec(rt.alloc())?;
-        let mut record = records[number];
+        let mut record = *record;
         match record.contract(tube) {
             Ok(answer) => {
                 changed = show_changes(rt, &before, tube)? || changed;

@@ -1,5 +1,4 @@
 // The same swim by one pile: rounds over a composition of two nets, which does by itself what the tour did by hand.
-use anyhow::anyhow;
 use constraint::Constraint;
 use contractor::{Both, Contractor, Repeat, Rounds};
 use net::Net;
@@ -13,26 +12,17 @@ pub(crate) fn show(
     records: &[Constraint],
     tube: &mut [Row],
 ) -> anyhow::Result<()> {
-    let Ok(few) = Rounds::new(8) else {
-        return Err(anyhow!("no such number of rounds"));
-    };
-    let Ok(many) = Rounds::new(32) else {
-        return Err(anyhow!("no such number of rounds"));
-    };
-    let mut first = Net::new(many);
-    let mut second = Net::new(many);
-    for number in 0..records.len() {
-        let pushed = if number < FIRST {
-            first.push(records[number])
-        } else {
-            second.push(records[number])
-        };
-        if pushed.is_err() {
-            return Err(anyhow!("no room in the net"));
-        }
+    let rounds = Rounds::new(32)?;
+    let mut first = Net::new(rounds);
+    let mut second = Net::new(rounds);
+    for record in records.iter().take(FIRST) {
+        first.push(*record)?;
+    }
+    for record in records.iter().skip(FIRST) {
+        second.push(*record)?;
     }
     let mut pile = Repeat {
-        rounds: few,
+        rounds: Rounds::new(8)?,
         part: Both { first, second },
     };
     let need = pile.need();

@@ -22,9 +22,9 @@ fn intervals(rt: HostRuntime) {
         (i32::MAX, i32::MIN, 3),
     ] {
         assert_eq!(rt; fault_number(Interval::new(low, high)), fault);
-        assert_eq!(rt; fault_number(Interval::from_row(row(low, high))), fault);
+        assert_eq!(rt; fault_number(Interval::try_from(row(low, high))), fault);
         if let Ok(interval) = Interval::new(low, high) {
-            assert_eq!(rt; interval.row(), row(low, high));
+            assert_eq!(rt; Row::from(interval), row(low, high));
         }
     }
 }

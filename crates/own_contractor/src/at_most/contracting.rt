@@ -85,8 +85,8 @@ impl Contractor for AtMost {
         let Some(new_ahead) = ahead.cut(behind.low, Interval::REACH) else {
             return empty_at(self.number, self.ahead);
         };
-        tube[self.behind] = new_behind.row();
-        tube[self.ahead] = new_ahead.row();
+        tube[self.behind] = Row::from(new_behind);
+        tube[self.ahead] = Row::from(new_ahead);
         Answer::kept(Mark::Settled, 1)
     }
 }
