@@ -34,6 +34,7 @@ pub enum Mark {
     Stopped,
 }
 
+// Not a Result: that nothing is left is an answer as good as the other, the calls stand beside either, and no `?` may pass it by.
 #[derive(Clone, Copy, Debug, Eq, PartialEq)]
 pub enum Verdict {
     Kept(Mark),

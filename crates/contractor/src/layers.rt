@@ -23,9 +23,9 @@ pub use rounds::Rounds;
 
 // Uses a part that is not refused, and says what is owed of every use: the tube is left a tube, and the answer's numbers stay small.
 fn use_part<C: Contractor>(part: &mut C, tube: &mut [Row]) -> Answer
-    requires { Accepted (C.Contractor.value part.old) tube.old }
-    ensures same { C.Contractor.value part.new ≡ C.Contractor.value part.old }
-    ensures answer { leaving result tube.new ≡ (C.Contractor.value part.old).narrowed tube.old }
+    requires { Accepted (C.value part.old) tube.old }
+    ensures same { C.value part.new ≡ C.value part.old }
+    ensures answer { leaving result tube.new ≡ (C.value part.old).narrowed tube.old }
     ensures left { is_tube tube.new ≡ true }
     ensures few { result.calls ≤ most_calls }
     ensures placed { Placed most_layers (length tube.old) result.verdict }

@@ -100,9 +100,7 @@ fn use_it<C: Contractor>(
         }
     }
     for (cell, row) in tube.iter().enumerate() {
-        let low = row.low;
-        let high = row.high;
-        println!(rt; "  cell {cell}: {low}..{high}")?;
+        println!(rt; "  cell {cell}: {row}")?;
     }
     Ok(())
 }

@@ -37,9 +37,7 @@ fn tour(rt: &HostRuntime) -> anyhow::Result<()> {
 fn show_tube(rt: &HostRuntime, tube: &[Row]) -> anyhow::Result<()> {
     for (cell, row) in tube.iter().enumerate() {
         let name = cell_name(cell);
-        let low = row.low;
-        let high = row.high;
-        println!(rt; "  {name}: {low}..{high}")?;
+        println!(rt; "  {name}: {row}")?;
     }
     Ok(())
 }
@@ -97,11 +95,7 @@ fn show_changes(rt: &HostRuntime, before: &[Row], after: &[Row]) -> anyhow::Resu
         if *old != *new {
             changed = true;
             let name = cell_name(cell);
-            let was_low = old.low;
-            let was_high = old.high;
-            let low = new.low;
-            let high = new.high;
-            println!(rt; "    {name}: {was_low}..{was_high} becomes {low}..{high}")?;
+            println!(rt; "    {name}: {old} becomes {new}")?;
         }
     }
     if !changed {

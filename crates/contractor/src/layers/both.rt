@@ -20,10 +20,11 @@ pub struct Both<A, B> {
 }
 
 impl<A: Contractor, B: Contractor> Contractor for Both<A, B> {
-    ghost value = { λ c. both (A.Contractor.value c.first) (B.Contractor.value c.second) };
+    ghost value = { λ c. both (A.value c.first) (B.value c.second) };
 
-    ghost keeps = { λ c. both_keeps _ _ (A.Contractor.keeps c.first) (B.Contractor.keeps c.second) };
+    ghost keeps = { λ c. both_keeps _ _ (A.keeps c.first) (B.keeps c.second) };
 
+    // The union has the same figures: each is one line, and a function shared with it would be called by as long a line.
     fn need(&self) -> usize {
         self.first.need().max(self.second.need())
     }

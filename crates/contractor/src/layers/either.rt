@@ -30,15 +30,16 @@ fn widen(table: &mut [Row], other: &[Row])
     requires { length other.now ≡ length table.old }
     ensures { table.new ≡ hulls other.now table.old }
 {
+    // Not a zip of both: the check learns nothing of rows that are written through an adapter of iter_mut.
     for (i, row) in other.iter().enumerate() {
         table[i] = row.hull(table[i]);
     }
 }
 
 impl<A: Contractor, B: Contractor> Contractor for Either<A, B> {
-    ghost value = { λ c. either (A.Contractor.value c.first) (B.Contractor.value c.second) };
+    ghost value = { λ c. either (A.value c.first) (B.value c.second) };
 
-    ghost keeps = { λ c. either_keeps _ _ (A.Contractor.keeps c.first) (B.Contractor.keeps c.second) };
+    ghost keeps = { λ c. either_keeps _ _ (A.keeps c.first) (B.keeps c.second) };
 
     fn need(&self) -> usize {
         self.first.need().max(self.second.need())

@@ -30,11 +30,11 @@ fn round<C: Contractor>(
     before: &mut [Row],
     calls: &mut u64,
 ) -> Option<Answer>
-    requires accepted { Accepted (C.Contractor.value part.old) tube.old }
+    requires accepted { Accepted (C.value part.old) tube.old }
     requires sized { length before.old ≡ length tube.old }
     requires few { calls.old ≤ most_rounds * most_calls }
-    ensures same { C.Contractor.value part.new ≡ C.Contractor.value part.old }
-    ensures round { Round (C.Contractor.value part.old) tube.old calls.old tube.new calls.new result }
+    ensures same { C.value part.new ≡ C.value part.old }
+    ensures round { Round (C.value part.old) tube.old calls.old tube.new calls.new result }
 {
     before.copy_from_slice(tube);
     let used = use_part(part, tube);
@@ -52,9 +52,9 @@ fn round<C: Contractor>(
 }
 
 impl<C: Contractor> Contractor for Repeat<C> {
-    ghost value = { λ c. repeat (count_of c.rounds) (C.Contractor.value c.part) };
+    ghost value = { λ c. repeat (count_of c.rounds) (C.value c.part) };
 
-    ghost keeps = { λ c. counted_keeps _ _ c.rounds.counted (C.Contractor.keeps c.part) };
+    ghost keeps = { λ c. counted_keeps _ _ c.rounds.counted (C.keeps c.part) };
 
     fn need(&self) -> usize {
         self.part.need()
