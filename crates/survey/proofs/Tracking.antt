@@ -21,13 +21,13 @@ use Rattle.survey.specs.Tracks.{survey_allowance, Fresh, first_refusal}
 -- ---- making and proposing
 
 module _ (first : List Row) (r : Rest) (made : Made first survey_allowance (Ok r)) where
-  pub as_long : r.cells ≡ length first
+  pub as_long : r.account.cells ≡ length first
   as_long = ap (λ s. s.cells) (made.1 first).3.1
 
   pub never_refused : (w w' : List Row) (e : Refused Rest) → length w ≡ length first → Proposing r first w w' (Err e) → ⊥
   never_refused w w' e same refused =
       let sized = as_long in
-      let none : copy_refusal r.cells first w ≡ None = grind (arith, nat_tests) in
+      let none : copy_refusal r.account.cells first w ≡ None = grind (arith, nat_tests) in
       let some = refused.0 in
       let z : ◌≡◌ {A = ℕ} 0 1 = cc in
       omega arith
@@ -62,23 +62,23 @@ module _ (v : Value) (t : List Row) where
   fair keeps free = keeps.fair t (accepted free)
 
   module _ (w : List Row) (p : Proposal) (ready : Ready v t w p) (w' : List Row) where
-    charge : (n : ℕ) → n ≡ p.charged + (v.narrowed w).answer.calls → (v.narrowed t).answer.calls ≡ n
+    charge : (n : ℕ) → n ≡ p.account.charged + (v.narrowed w).answer.calls → (v.narrowed t).answer.calls ≡ n
     charge n e = ap (λ x. (v.narrowed x).answer.calls) (sym ready.copied) ∙ sym (zero-add (v.narrowed w).answer.calls) ∙ ap (λ c. c + (v.narrowed w).answer.calls) (sym ready.fresh.uncharged) ∙ sym e
 
     module _ (q : Proposal) (m : Mark) (used : Using p v w w' (used_kept q m)) where
-      pub kept_cells : q.cells ≡ length t
+      pub kept_cells : q.account.cells ≡ length t
       kept_cells = ap (λ s. s.cells) (used.2 t).after ∙ ready.fresh.sized
 
       pub kept_work : w' ≡ (v.narrowed t).tube
       kept_work = ap (λ s. s.work) (used.2 t).after ∙ ap (λ x. (v.narrowed x).tube) ready.copied
 
-      pub kept_answer : (v.narrowed t).answer ≡ kept m q.charged
+      pub kept_answer : (v.narrowed t).answer ≡ kept m q.account.charged
       kept_answer =
-          told (v.narrowed t).answer (Kept m) q.charged (ap (λ x. (v.narrowed x).answer.verdict) (sym ready.copied) ∙ used.1)
-          (charge q.charged (ap (λ s. s.charged) (used.2 t).after))
+          told (v.narrowed t).answer (Kept m) q.account.charged (ap (λ x. (v.narrowed x).answer.verdict) (sym ready.copied) ∙ used.1)
+          (charge q.account.charged (ap (λ s. s.charged) (used.2 t).after))
 
     module _ (e : Emptied) (used : Using p v w w' (used_emptied e)) where
-      pub emptied_answer : (v.narrowed t).answer ≡ emptied e.fault e.charged
+      pub emptied_answer : (v.narrowed t).answer ≡ emptied e.fault e.account.charged
       emptied_answer =
-          told (v.narrowed t).answer (Empty e.fault) e.charged (ap (λ x. (v.narrowed x).answer.verdict) (sym ready.copied) ∙ used.1)
-          (charge e.charged (ap (λ s. s.charged) (used.2 t).after))
+          told (v.narrowed t).answer (Empty e.fault) e.account.charged (ap (λ x. (v.narrowed x).answer.verdict) (sym ready.copied) ∙ used.1)
+          (charge e.account.charged (ap (λ s. s.charged) (used.2 t).after))

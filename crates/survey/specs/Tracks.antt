@@ -15,9 +15,9 @@ survey_allowance = 1000000
 
 -- a proposal on a new track: nothing is charged yet
 pub record Fresh (cells : ℕ) (p : Proposal) : Type 0 where
-  pub sized : p.cells ≡ cells
-  pub allowed : p.allowance ≡ survey_allowance
-  pub uncharged : p.charged ≡ 0
+  pub sized : p.account.cells ≡ cells
+  pub allowed : p.account.allowance ≡ survey_allowance
+  pub uncharged : p.account.charged ≡ 0
 
 -- why the use would be refused on a new track over the table
 abbrev pub first_refusal : Value → List Row → Option TrackRefusal

@@ -43,9 +43,9 @@ fn open(table: &[Row], work: &mut [Row]) -> Proposal
 
 // Makes the work table the committed one, and tells the calls charged.
 fn commit(proposal: Proposal, table: &mut [Row], work: &[Row]) -> u64
-    requires table { length table.old ≡ proposal.cells }
-    requires work { length work.now ≡ proposal.cells }
-    ensures charged { result ≡ proposal.charged }
+    requires table { length table.old ≡ proposal.account.cells }
+    requires work { length work.now ≡ proposal.account.cells }
+    ensures charged { result ≡ proposal.account.charged }
     ensures copied { table.new ≡ work.now }
 {
     match proposal.commit(table, work) {

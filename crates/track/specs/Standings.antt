@@ -17,13 +17,13 @@ use Rattle.track.specs.declared.answer.Used.TheVariants.{Kept, Emptied as emptie
 
 -- a track with its two tables
 abbrev pub at_rest : Rest → List Row → List Row → State
-at_rest r c w = record { cells = r.cells; allowance = r.allowance; charged = r.charged; standing = resting; committed = c; work = w }
+at_rest r c w = record { cells = r.account.cells; allowance = r.account.allowance; charged = r.account.charged; standing = resting; committed = c; work = w }
 
 abbrev pub at_proposal : Proposal → List Row → List Row → State
-at_proposal p c w = record { cells = p.cells; allowance = p.allowance; charged = p.charged; standing = proposing; committed = c; work = w }
+at_proposal p c w = record { cells = p.account.cells; allowance = p.account.allowance; charged = p.account.charged; standing = proposing; committed = c; work = w }
 
 abbrev pub at_emptied : Emptied → List Row → List Row → State
-at_emptied e c w = record { cells = e.cells; allowance = e.allowance; charged = e.charged; standing = emptied e.fault; committed = c; work = w }
+at_emptied e c w = record { cells = e.account.cells; allowance = e.account.allowance; charged = e.account.charged; standing = emptied e.fault; committed = c; work = w }
 
 -- A making: from it on, whatever follows, every history keeps its promises, with whatever contractors that keep the meaning, and every pile of those keeps it.
 abbrev pub Made : (first : List Row) (allowance : ℕ) → Result Rest TrackRefusal → Type 0
@@ -36,8 +36,8 @@ Made first allowance (Err e) = make_refusal first allowance ≡ Some e
 
 -- a proposing, with the committed table and the work table before and after
 abbrev pub Proposing : Rest → (c w w' : List Row) → Result Proposal (Refused Rest) → Type 0
-Proposing r c w w' (Ok p) = (copy_refusal r.cells c w ≡ None) × Next (at_rest r c w) (proposed c) (at_proposal p c w')
-Proposing r c w w' (Err e) = (copy_refusal r.cells c w ≡ Some e.refusal) × Next (at_rest r c w) refused (at_rest e.standing c w')
+Proposing r c w w' (Ok p) = (copy_refusal r.account.cells c w ≡ None) × Next (at_rest r c w) (proposed c) (at_proposal p c w')
+Proposing r c w w' (Err e) = (copy_refusal r.account.cells c w ≡ Some e.refusal) × Next (at_rest r c w) refused (at_rest e.standing c w')
 
 -- a use of a contractor, whatever the committed table then holds
 abbrev pub one_use : Value → List Row → Use
@@ -45,16 +45,16 @@ one_use v w = record { contractor = v; on = w; answer = (v.narrowed w).answer }
 
 abbrev pub Using : Proposal → Value → (w w' : List Row) → Used → Type 0
 Using p v w w' (Kept q m) =
-    (use_refusal p.cells p.allowance p.charged v w ≡ None) × ((v.narrowed w).answer.verdict ≡ kept m) × ((c : List Row) → Next (at_proposal p c w) (used (one_use v w)) (at_proposal q c w'))
+    (use_refusal p.account.cells p.account.allowance p.account.charged v w ≡ None) × ((v.narrowed w).answer.verdict ≡ kept m) × ((c : List Row) → Next (at_proposal p c w) (used (one_use v w)) (at_proposal q c w'))
 Using p v w w' (emptied_by e) =
-    (use_refusal p.cells p.allowance p.charged v w ≡ None) × ((v.narrowed w).answer.verdict ≡ empty e.fault) × ((c : List Row) → Next (at_proposal p c w) (used (one_use v w)) (at_emptied e c w'))
+    (use_refusal p.account.cells p.account.allowance p.account.charged v w ≡ None) × ((v.narrowed w).answer.verdict ≡ empty e.fault) × ((c : List Row) → Next (at_proposal p c w) (used (one_use v w)) (at_emptied e c w'))
 Using p v w w' (TurnedDown q e) =
-    (use_refusal p.cells p.allowance p.charged v w ≡ Some e) × ((c : List Row) → Next (at_proposal p c w) refused (at_proposal q c w'))
+    (use_refusal p.account.cells p.account.allowance p.account.charged v w ≡ Some e) × ((c : List Row) → Next (at_proposal p c w) refused (at_proposal q c w'))
 
 -- a commit, with the committed table before and after and the work table
 abbrev pub Committing : Proposal → (c c' w : List Row) → Result Rest (Refused Proposal) → Type 0
-Committing p c c' w (Ok r) = (copy_refusal p.cells c w ≡ None) × Next (at_proposal p c w) committed (at_rest r c' w)
-Committing p c c' w (Err e) = (copy_refusal p.cells c w ≡ Some e.refusal) × Next (at_proposal p c w) refused (at_proposal e.standing c' w)
+Committing p c c' w (Ok r) = (copy_refusal p.account.cells c w ≡ None) × Next (at_proposal p c w) committed (at_rest r c' w)
+Committing p c c' w (Err e) = (copy_refusal p.account.cells c w ≡ Some e.refusal) × Next (at_proposal p c w) refused (at_proposal e.standing c' w)
 
 -- withdraw and close write no table, whatever the tables hold
 abbrev pub Withdrawing : Proposal → Rest → Type 0

@@ -19,38 +19,22 @@ impl Proposal {
             return Used::Refused(self, refusal);
         }
         let answer = contractor.narrow(work);
-        let Proposal {
-            cells,
-            allowance,
-            charged,
-        } = self;
-        let charged = charged + answer.calls;
+        let Proposal { mut account } = self;
+        account.charge(answer.calls);
         match answer.verdict {
-            Verdict::Kept(mark) => Used::Kept(
-                Proposal {
-                    cells,
-                    allowance,
-                    charged,
-                },
-                mark,
-            ),
-            Verdict::Empty(fault) => Used::Emptied(Emptied {
-                cells,
-                allowance,
-                charged,
-                fault,
-            }),
+            Verdict::Kept(mark) => Used::Kept(Proposal { account }, mark),
+            Verdict::Empty(fault) => Used::Emptied(Emptied { account, fault }),
         }
     }
 
     // Why a use would be refused, the smallest number first, or none.
     fn refusal<C: Contractor>(&self, contractor: &C, work: &[Row]) -> Option<TrackRefusal>
-        ensures { result ≡ use_refusal self.now.cells self.now.allowance self.now.charged (C.value contractor.now) work.now }
+        ensures { result ≡ use_refusal self.now.account.cells self.now.account.allowance self.now.account.charged (C.value contractor.now) work.now }
     {
         if let Some(refusal) = contractor.refusal(work) {
             return Some(of_use(refusal));
         }
-        if work.len() != self.cells {
+        if work.len() != self.account.cells {
             return Some(TrackRefusal::WrongLength);
         }
         if contractor.ceiling() > self.unspent() {
@@ -63,47 +47,29 @@ impl Proposal {
     pub fn commit(self, committed: &mut [Row], work: &[Row]) -> Result<Rest, Refused<Proposal>>
         ensures { Committing self committed.old committed.new work.now result }
     {
-        if committed.len() != self.cells || work.len() != self.cells {
+        if let Err(refusal) = self.account.check_copy(committed, work) {
             return Err(Refused {
                 standing: self,
-                refusal: TrackRefusal::WrongLength,
+                refusal,
             });
         }
         committed.copy_from_slice(work);
-        let Proposal {
-            cells,
-            allowance,
-            charged,
-        } = self;
-        Ok(Rest {
-            cells,
-            allowance,
-            charged,
-        })
+        let Proposal { account } = self;
+        Ok(Rest { account })
     }
 
-    // Gives the proposal up. No table is written.
+    // Gives the proposal up. No table is written, and what was used stays charged.
     pub fn withdraw(self) -> Rest
         ensures { Withdrawing self result }
     {
-        let Proposal {
-            cells,
-            allowance,
-            charged,
-        } = self;
-        // What was used stays charged.
-        let spent = charged;
-        Rest {
-            cells,
-            allowance,
-            charged: spent,
-        }
+        let Proposal { account } = self;
+        Rest { account }
     }
 
     // The calls that are left of the allowance.
     pub fn unspent(&self) -> u64
-        ensures { result ≡ self.now.allowance - self.now.charged }
+        ensures { result ≡ self.now.account.allowance - self.now.account.charged }
     {
-        self.allowance - self.charged
+        self.account.unspent()
     }
 }

@@ -32,6 +32,6 @@ returns-in-Emptied g c =
     let used = c.in-Emptied.ensures.result in
     let charged = c.charged.ensures ∙ ap (λ s. s.charged) (c.close.ensures.1 t t).1 in
     record {
-      ended = (emptied_answer v t c.open.new.work c.open.result ready c.apply.new.work c.in-Emptied.emptied used ∙ ap (λ f. emptied f c.in-Emptied.emptied.charged) (sym c.close.ensures.0) ∙ ap (emptied c.close.result.0) (sym charged), refl);
+      ended = (emptied_answer v t c.open.new.work c.open.result ready c.apply.new.work c.in-Emptied.emptied used ∙ ap (λ f. emptied f c.in-Emptied.emptied.account.charged) (sym c.close.ensures.0) ∙ ap (emptied c.close.result.0) (sym charged), refl);
       fair = fair v t keeps c.requires;
     }
