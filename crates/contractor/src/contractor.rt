@@ -1,5 +1,6 @@
 // The one interface of all contractors.
 ghost use Rattle.std.specs.Prelude.{◌≡◌};
+ghost use Rattle.std.specs.Result.{result_err};
 ghost use Rattle.contractor.specs.Contractors.{Value, Keeps, Accepted, Narrowed, Outcome, refusal, outcome};
 
 use crate::answer::Answer;
@@ -28,18 +29,18 @@ pub trait Contractor {
         ensures same { value self.new ≡ value self.old }
         ensures answer { record { answer = result; tube = tube.new } ≡ (value self.old).narrowed tube.old };
 
-    // Why a use on this table would be refused, the smallest number first, or none.
-    fn refusal(&self, table: &[Row]) -> Option<UseRefusal>
-        ensures { result ≡ refusal (value self.now) table.now }
+    // Whether a use on this table is accepted, or why it would be refused, the smallest number first.
+    fn check(&self, table: &[Row]) -> Result<(), UseRefusal>
+        ensures { result_err result ≡ refusal (value self.now) table.now }
     {
         if !is_tube(table) || table.len() < self.need() {
-            Some(UseRefusal::NotATube)
+            Err(UseRefusal::NotATube)
         } else if self.height() > MAX_LAYERS {
-            Some(UseRefusal::TooHigh)
+            Err(UseRefusal::TooHigh)
         } else if self.ceiling() > MAX_CALLS {
-            Some(UseRefusal::TooCostly)
+            Err(UseRefusal::TooCostly)
         } else {
-            None
+            Ok(())
         }
     }
 
@@ -48,10 +49,8 @@ pub trait Contractor {
         ensures same { value self.new ≡ value self.old }
         ensures outcome { record { result = result; table = table.new } ≡ outcome (value self.old) table.old }
     {
-        match self.refusal(table) {
-            Some(refusal) => Err(refusal),
-            None => Ok(self.narrow(table)),
-        }
+        self.check(table)?;
+        Ok(self.narrow(table))
     }
 
     // It keeps the meaning of a contractor.
