@@ -1,10 +1,11 @@
 // An open proposal: contractors are applied to it, and it is committed or withdrawn.
 ghost use Rattle.std.specs.Prelude.{◌≡◌, ◌-◌};
+ghost use Rattle.std.specs.Result.{result_err};
 ghost use Rattle.track.specs.Refusals.{use_refusal};
 ghost use Rattle.track.specs.Standings.{Using, Committing, Withdrawing};
 
 use crate::answer::{Refused, Used};
-use crate::refusal::{TrackRefusal, of_use};
+use crate::refusal::TrackRefusal;
 use crate::standing::{Emptied, Proposal, Rest};
 use contractor::{Contractor, Verdict};
 use tube::Row;
@@ -15,7 +16,7 @@ impl Proposal {
         ensures same { C.value contractor.new ≡ C.value contractor.old }
         ensures result { Using self (C.value contractor.old) work.old work.new result }
     {
-        if let Some(refusal) = self.refusal(contractor, work) {
+        if let Err(refusal) = self.check(contractor, work) {
             return Used::Refused(self, refusal);
         }
         let answer = contractor.narrow(work);
@@ -27,20 +28,18 @@ impl Proposal {
         }
     }
 
-    // Why a use would be refused, the smallest number first, or none.
-    fn refusal<C: Contractor>(&self, contractor: &C, work: &[Row]) -> Option<TrackRefusal>
-        ensures { result ≡ use_refusal self.now.account.cells self.now.account.allowance self.now.account.charged (C.value contractor.now) work.now }
+    // Whether a use is accepted, or why it would be refused, the smallest number first.
+    fn check<C: Contractor>(&self, contractor: &C, work: &[Row]) -> Result<(), TrackRefusal>
+        ensures { result_err result ≡ use_refusal self.now.account.cells self.now.account.allowance self.now.account.charged (C.value contractor.now) work.now }
     {
-        if let Some(refusal) = contractor.refusal(work) {
-            return Some(of_use(refusal));
-        }
+        contractor.check(work)?;
         if work.len() != self.account.cells {
-            return Some(TrackRefusal::WrongLength);
+            return Err(TrackRefusal::WrongLength);
         }
         if contractor.ceiling() > self.unspent() {
-            return Some(TrackRefusal::OverAllowance);
+            return Err(TrackRefusal::OverAllowance);
         }
-        None
+        Ok(())
     }
 
     // Makes the work table the committed one.

@@ -36,12 +36,14 @@ impl TrackRefusal {
     }
 }
 
-pub(crate) fn of_use(refusal: UseRefusal) -> TrackRefusal
-    ensures { result ≡ of_use refusal }
-{
-    match refusal {
-        UseRefusal::NotATube => TrackRefusal::NotATube,
-        UseRefusal::TooHigh => TrackRefusal::TooHigh,
-        UseRefusal::TooCostly => TrackRefusal::TooCostly,
+impl From<UseRefusal> for TrackRefusal {
+    ghost from_gives = { λ e r. r ≡ of_use e };
+
+    fn from(refusal: UseRefusal) -> Self {
+        match refusal {
+            UseRefusal::NotATube => TrackRefusal::NotATube,
+            UseRefusal::TooHigh => TrackRefusal::TooHigh,
+            UseRefusal::TooCostly => TrackRefusal::TooCostly,
+        }
     }
 }
