@@ -65,7 +65,7 @@ module _ (v : Value) (t : List Row) where
     charge : (n : ℕ) → n ≡ p.account.charged + (v.narrowed w).answer.calls → (v.narrowed t).answer.calls ≡ n
     charge n e = ap (λ x. (v.narrowed x).answer.calls) (sym ready.copied) ∙ sym (zero-add (v.narrowed w).answer.calls) ∙ ap (λ c. c + (v.narrowed w).answer.calls) (sym ready.fresh.uncharged) ∙ sym e
 
-    module _ (q : Proposal) (m : Mark) (used : Using p v w w' (used_kept q m)) where
+    module _ (q : Proposal) (m : Mark) (used : Using p v w w' (Ok (used_kept q m))) where
       pub kept_cells : q.account.cells ≡ length t
       kept_cells = ap (λ s. s.cells) (used.2 t).after ∙ ready.fresh.sized
 
@@ -77,7 +77,7 @@ module _ (v : Value) (t : List Row) where
           told (v.narrowed t).answer (Kept m) q.account.charged (ap (λ x. (v.narrowed x).answer.verdict) (sym ready.copied) ∙ used.1)
           (charge q.account.charged (ap (λ s. s.charged) (used.2 t).after))
 
-    module _ (e : Emptied) (used : Using p v w w' (used_emptied e)) where
+    module _ (e : Emptied) (used : Using p v w w' (Ok (used_emptied e))) where
       pub emptied_answer : (v.narrowed t).answer ≡ emptied e.fault e.account.charged
       emptied_answer =
           told (v.narrowed t).answer (Empty e.fault) e.account.charged (ap (λ x. (v.narrowed x).answer.verdict) (sym ready.copied) ∙ used.1)

@@ -66,19 +66,19 @@ pub(crate) fn use_on_track<C: Contractor>(contractor: &mut C, table: &mut [Row])
     let mut rows = [Row { low: 0, high: 0 }; MAX_CELLS];
     let work = &mut rows[0..table.len()];
     match open(table, work).apply(contractor, work) {
-        Used::Kept(proposal, mark) => Ending::Kept {
+        Ok(Used::Kept(proposal, mark)) => Ending::Kept {
             calls: commit(proposal, table, work),
             mark,
         },
-        Used::Emptied(emptied) => {
+        Ok(Used::Emptied(emptied)) => {
             let (fault, rest) = emptied.close();
             Ending::Empty {
                 fault,
                 calls: rest.charged(),
             }
         }
-        Used::Refused(proposal, _) => {
-            let _ = proposal.withdraw();
+        Err(refused) => {
+            let _ = refused.standing.withdraw();
             unreachable()
         }
     }

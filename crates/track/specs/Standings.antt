@@ -13,7 +13,7 @@ use Rattle.track.specs.declared.standing.Proposal.{Proposal}
 use Rattle.track.specs.declared.standing.Emptied.{Emptied}
 use Rattle.track.specs.declared.answer.Refused.{Refused}
 use Rattle.track.specs.declared.answer.Used.{Used}
-use Rattle.track.specs.declared.answer.Used.TheVariants.{Kept, Emptied as emptied_by, Refused as TurnedDown}
+use Rattle.track.specs.declared.answer.Used.TheVariants.{Kept, Emptied as emptied_by}
 
 -- a track with its two tables
 abbrev pub at_rest : Rest → List Row → List Row → State
@@ -43,13 +43,13 @@ Proposing r c w w' (Err e) = (copy_refusal r.account.cells c w ≡ Some e.refusa
 abbrev pub one_use : Value → List Row → Use
 one_use v w = record { contractor = v; on = w; answer = (v.narrowed w).answer }
 
-abbrev pub Using : Proposal → Value → (w w' : List Row) → Used → Type 0
-Using p v w w' (Kept q m) =
+abbrev pub Using : Proposal → Value → (w w' : List Row) → Result Used (Refused Proposal) → Type 0
+Using p v w w' (Ok (Kept q m)) =
     (use_refusal p.account.cells p.account.allowance p.account.charged v w ≡ None) × ((v.narrowed w).answer.verdict ≡ kept m) × ((c : List Row) → Next (at_proposal p c w) (used (one_use v w)) (at_proposal q c w'))
-Using p v w w' (emptied_by e) =
+Using p v w w' (Ok (emptied_by e)) =
     (use_refusal p.account.cells p.account.allowance p.account.charged v w ≡ None) × ((v.narrowed w).answer.verdict ≡ empty e.fault) × ((c : List Row) → Next (at_proposal p c w) (used (one_use v w)) (at_emptied e c w'))
-Using p v w w' (TurnedDown q e) =
-    (use_refusal p.account.cells p.account.allowance p.account.charged v w ≡ Some e) × ((c : List Row) → Next (at_proposal p c w) refused (at_proposal q c w'))
+Using p v w w' (Err e) =
+    (use_refusal p.account.cells p.account.allowance p.account.charged v w ≡ Some e.refusal) × ((c : List Row) → Next (at_proposal p c w) refused (at_proposal e.standing c w'))
 
 -- a commit, with the committed table before and after and the work table
 abbrev pub Committing : Proposal → (c c' w : List Row) → Result Rest (Refused Proposal) → Type 0

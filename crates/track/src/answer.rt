@@ -9,12 +9,10 @@ pub struct Refused<S> {
     pub refusal: TrackRefusal,
 }
 
-// What a use answers. The calls are charged to the standing that it hands back.
+// What a use that is not refused answers. The calls are charged to the standing that it hands back.
 pub enum Used {
     // The work table is narrowed, and may hold trajectories.
     Kept(Proposal, Mark),
     // It holds none.
     Emptied(Emptied),
-    // Nothing was used and nothing charged.
-    Refused(Proposal, TrackRefusal),
 }

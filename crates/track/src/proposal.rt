@@ -12,19 +12,26 @@ use tube::Row;
 
 impl Proposal {
     // Uses a contractor on the work table and charges the calls that it answers.
-    pub fn apply<C: Contractor>(self, contractor: &mut C, work: &mut [Row]) -> Used
+    pub fn apply<C: Contractor>(
+        self,
+        contractor: &mut C,
+        work: &mut [Row],
+    ) -> Result<Used, Refused<Proposal>>
         ensures same { C.value contractor.new ≡ C.value contractor.old }
         ensures result { Using self (C.value contractor.old) work.old work.new result }
     {
         if let Err(refusal) = self.check(contractor, work) {
-            return Used::Refused(self, refusal);
+            return Err(Refused {
+                standing: self,
+                refusal,
+            });
         }
         let answer = contractor.narrow(work);
         let Proposal { mut account } = self;
         account.charge(answer.calls);
         match answer.verdict {
-            Verdict::Kept(mark) => Used::Kept(Proposal { account }, mark),
-            Verdict::Empty(fault) => Used::Emptied(Emptied { account, fault }),
+            Verdict::Kept(mark) => Ok(Used::Kept(Proposal { account }, mark)),
+            Verdict::Empty(fault) => Ok(Used::Emptied(Emptied { account, fault })),
         }
     }
 

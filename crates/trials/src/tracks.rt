@@ -103,13 +103,14 @@ fn using<C: Contractor>(allowance: u64, contractor: &mut C, work: &mut [Row]) ->
     match make(&[ROW; 3], allowance) {
         Ok(rest) => match rest.propose(&[ROW; 3], &mut [ROW; 3]) {
             Ok(proposal) => match proposal.apply(contractor, work) {
-                Used::Kept(proposal, _) => Told::Kept(proposal.withdraw().charged()),
-                Used::Emptied(emptied) => {
+                Ok(Used::Kept(proposal, _)) => Told::Kept(proposal.withdraw().charged()),
+                Ok(Used::Emptied(emptied)) => {
                     let (_, rest) = emptied.close();
                     Told::Emptied(rest.charged())
                 }
-                Used::Refused(proposal, refusal) => {
-                    let rest = proposal.withdraw();
+                Err(refused) => {
+                    let Refused { standing, refusal } = refused;
+                    let rest = standing.withdraw();
                     if rest.charged() == 0 {
                         Told::Refused(refusal.number())
                     } else {

@@ -142,11 +142,11 @@ fn propose(
             (standing, Ending::Refused(refusal.number()))
         }
         Ok(proposal) => match proposal.apply(&mut bound, work) {
-            Used::Refused(proposal, refusal) => (
-                proposal.withdraw(),
-                Ending::Refused(refusal.number()),
-            ),
-            Used::Emptied(emptied) => {
+            Err(refused) => {
+                let Refused { standing, refusal } = refused;
+                (standing.withdraw(), Ending::Refused(refusal.number()))
+            }
+            Ok(Used::Emptied(emptied)) => {
                 let (fault, rest) = emptied.close();
                 (
                     rest,
@@ -156,7 +156,7 @@ fn propose(
                     },
                 )
             }
-            Used::Kept(proposal, _) => end(proposal, plan, committed, work),
+            Ok(Used::Kept(proposal, _)) => end(proposal, plan, committed, work),
         },
     }
 }
