@@ -1,6 +1,8 @@
 -- One proposal on a new track: what each of its calls leaves. Assumes nothing.
-use Rattle.std.proofs.Common.{◌≡◌, ℕ, ◌+◌, List, length, None, Ok, Err, sym, ap, ◌∙◌, ap₂, zero-add, arith}
+use Rattle.std.proofs.Common.{◌≡◌, ℕ, ◌+◌, List, true, length, None, Ok, Err, Result, sym, refl, ap, ◌∙◌, ap₂, zero-add, arith}
 use Rattle.std.proofs.lemmas.Bool.Decides.{nat_tests}
+use Rattle.std.specs.Result.{IsOk}
+use Rattle.tube.specs.Tubes.{is_tube}
 use Rattle.tube.specs.declared.row.Row.{Row}
 use Rattle.contractor.specs.Answers.{kept, emptied}
 use Rattle.contractor.specs.Contractors.{Value, Keeps, Accepted, Fair}
@@ -8,10 +10,11 @@ use Rattle.contractor.specs.declared.answer.Answer.{Answer}
 use Rattle.contractor.specs.declared.answer.Mark.{Mark}
 use Rattle.contractor.specs.declared.answer.Verdict.{Verdict}
 use Rattle.contractor.specs.declared.answer.Verdict.TheVariants.{Kept, Empty}
-use Rattle.track.specs.Refusals.{copy_refusal}
+use Rattle.track.specs.Refusals.{make_refusal, copy_refusal}
 use Rattle.track.specs.Standings.{Made, Proposing, Using}
 use Rattle.track.specs.declared.answer.Refused.{Refused}
 use Rattle.track.specs.declared.answer.Used.TheVariants.{Kept as used_kept, Emptied as used_emptied}
+use Rattle.track.specs.declared.refusal.TrackRefusal.{TrackRefusal}
 use Rattle.track.specs.declared.standing.Emptied.{Emptied}
 use Rattle.track.specs.declared.standing.Proposal.{Proposal}
 use Rattle.track.specs.declared.standing.Rest.{Rest}
@@ -20,17 +23,25 @@ use Rattle.survey.specs.Tracks.{survey_allowance, Fresh, first_refusal}
 
 -- ---- making and proposing
 
+pub makes : (first : List Row) (result : Result Rest TrackRefusal) → is_tube first ≡ true → Made first survey_allowance result → IsOk result
+makes first (Ok r) tube made = refl
+makes first (Err e) tube made =
+    let none : make_refusal first survey_allowance ≡ None = cc in
+    let z : ◌≡◌ {A = ℕ} 0 1 = cc in
+    absurd (omega arith)
+
 module _ (first : List Row) (r : Rest) (made : Made first survey_allowance (Ok r)) where
   pub as_long : r.account.cells ≡ length first
   as_long = ap (λ s. s.cells) (made.1 first).3.1
 
-  pub never_refused : (w w' : List Row) (e : Refused Rest) → length w ≡ length first → Proposing r first w w' (Err e) → ⊥
-  never_refused w w' e same refused =
+  pub proposes : (w w' : List Row) (result : Result Proposal (Refused Rest)) → length w ≡ length first → Proposing r first w w' result → IsOk result
+  proposes w w' (Ok p) same opened = refl
+  proposes w w' (Err e) same refused =
       let sized = as_long in
       let none : copy_refusal r.account.cells first w ≡ None = grind (arith, nat_tests) in
       let some = refused.0 in
       let z : ◌≡◌ {A = ℕ} 0 1 = cc in
-      omega arith
+      absurd (omega arith)
 
   pub fresh : (w w' : List Row) (p : Proposal) → Proposing r first w w' (Ok p) → Fresh (length first) p
   fresh w w' p opened = record {

@@ -3,7 +3,8 @@ use crate::refusal::TrackRefusal;
 use crate::standing::{Emptied, Proposal};
 use contractor::Mark;
 
-// A refused call hands the standing back as it was.
+// A refused call hands the standing back as it was. One with a proposal in it can't be dropped either.
+#[derive(Drop)]
 pub struct Refused<S> {
     pub standing: S,
     pub refusal: TrackRefusal,
