@@ -43,11 +43,7 @@ fn proposing(committed: &[Row], work: &mut [Row]) -> u8 {
                 let _ = proposal.withdraw();
                 0
             }
-            Err(refused) => {
-                let Refused { standing, refusal } = refused;
-                drop(standing);
-                refusal.number()
-            }
+            Err(refused) => refused.refusal.number(),
         },
         Err(refusal) => refusal.number(),
     }
@@ -76,11 +72,7 @@ fn committing(committed: &mut [Row], work: &[Row]) -> u8 {
                     refusal.number()
                 }
             },
-            Err(refused) => {
-                let Refused { standing, refusal } = refused;
-                drop(standing);
-                refusal.number()
-            }
+            Err(refused) => refused.refusal.number(),
         },
         Err(refusal) => refusal.number(),
     }
@@ -118,11 +110,7 @@ fn using<C: Contractor>(allowance: u64, contractor: &mut C, work: &mut [Row]) ->
                     }
                 }
             },
-            Err(refused) => {
-                let Refused { standing, refusal } = refused;
-                drop(standing);
-                Told::Refused(refusal.number())
-            }
+            Err(refused) => Told::Refused(refused.refusal.number()),
         },
         Err(refusal) => Told::Refused(refusal.number()),
     }
