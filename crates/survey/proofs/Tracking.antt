@@ -27,8 +27,7 @@ pub makes : (first : List Row) (result : Result Rest TrackRefusal) → is_tube f
 makes first (Ok r) tube made = refl
 makes first (Err e) tube made =
     let none : make_refusal first survey_allowance ≡ None = cc in
-    let z : ◌≡◌ {A = ℕ} 0 1 = cc in
-    absurd (omega arith)
+    cc
 
 module _ (first : List Row) (r : Rest) (made : Made first survey_allowance (Ok r)) where
   pub as_long : r.account.cells ≡ length first
@@ -39,9 +38,7 @@ module _ (first : List Row) (r : Rest) (made : Made first survey_allowance (Ok r
   proposes w w' (Err e) same refused =
       let sized = as_long in
       let none : copy_refusal r.account.cells first w ≡ None = grind (arith, nat_tests) in
-      let some = refused.0 in
-      let z : ◌≡◌ {A = ℕ} 0 1 = cc in
-      absurd (omega arith)
+      cc
 
   pub fresh : (w w' : List Row) (p : Proposal) → Proposing r first w w' (Ok p) → Fresh (length first) p
   fresh w w' p opened = record {

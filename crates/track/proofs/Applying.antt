@@ -19,7 +19,7 @@ pub record Affordable (cells allowance charged : ℕ) (v : Value) (w : List Row)
   pub afforded : charged + v.ceiling ≤ allowance
 
 first_none : (o : Option UseRefusal) (later : Option TrackRefusal) → first_of o later ≡ None → (o ≡ None) × (later ≡ None)
-first_none (Some e) later h = let z : ◌≡◌ {A = ℕ} 0 1 = cc in absurd (omega arith)
+first_none (Some e) later h = cc
 first_none None later h = (refl, h)
 
 pub affordable : (cells allowance charged : ℕ) (v : Value) (w : List Row) → use_refusal cells allowance charged v w ≡ None → Affordable cells allowance charged v w
@@ -39,18 +39,18 @@ module _ (a : Account) {v : Value} {w w' : List Row} {r : Answer} (keeps : Keeps
   afforded_calls = omega (arith, calls_below, granted.afforded)
 
   -- by the verdict d, with the calls charged
-  pub uses_from : (b : Account) → b.cells ≡ a.cells → b.allowance ≡ a.allowance → b.charged ≡ a.charged + r.calls → (d : Verdict) → r.verdict ≡ d → (c : List Row) → Uses (record { cells = a.cells; allowance = a.allowance; charged = a.charged; standing = proposing; committed = c; work = w }) (one_use v w) (record { cells = b.cells; allowance = b.allowance; charged = b.charged; standing = standing_after d; committed = c; work = w' })
-  uses_from b cells allowance charged d verdict c = record {
-    keeps = keeps;
-    standing = refl;
-    sized = granted.sized;
-    on = refl;
-    accepted = granted.accepted;
-    afforded = granted.afforded;
-    answered = refl;
-    after =
-        let calls = ap (λ u. u.answer.calls) answered in
-        let told = ap (λ u. u.answer.verdict) answered in
-        let tube = ap (λ u. u.tube) answered in
-        cc;
-  }
+  pub used_from : (b : Account) → b.cells ≡ a.cells → b.allowance ≡ a.allowance → b.charged ≡ a.charged + r.calls → (d : Verdict) → r.verdict ≡ d → (use_refusal a.cells a.allowance a.charged v w ≡ None) × ((v.narrowed w).answer.verdict ≡ d) × ((c : List Row) → Uses (record { cells = a.cells; allowance = a.allowance; charged = a.charged; standing = proposing; committed = c; work = w }) (one_use v w) (record { cells = b.cells; allowance = b.allowance; charged = b.charged; standing = standing_after d; committed = c; work = w' }))
+  used_from b cells allowance charged d verdict =
+      let calls = ap (λ u. u.answer.calls) answered in
+      let told = ap (λ u. u.answer.verdict) answered in
+      let tube = ap (λ u. u.tube) answered in
+      (free, cc, λ c. record {
+        keeps = keeps;
+        standing = refl;
+        sized = granted.sized;
+        on = refl;
+        accepted = granted.accepted;
+        afforded = granted.afforded;
+        answered = refl;
+        after = cc;
+      })
