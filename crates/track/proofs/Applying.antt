@@ -28,9 +28,9 @@ affordable cells allowance charged v w h =
     let later = k.1 in
     record { accepted = record { free = k.0 }; sized = grind (arith, nat_tests, later); afforded = grind (arith, nat_tests, later) }
 
-module _ (a : Account) {v : Value} {w w' : List Row} {r : Answer} (keeps : Keeps v) (free : use_refusal a.cells a.allowance a.charged v w ≡ None) (answered : ◌≡◌ {A = Narrowed} (record { answer = r; tube = w' }) (v.narrowed w)) where
+module _ (a : Account) {v : Value} {w w' : List Row} {r : Answer} (keeps : Keeps v) (free : None ≡ use_refusal a.cells a.allowance a.charged v w) (answered : ◌≡◌ {A = Narrowed} (record { answer = r; tube = w' }) (v.narrowed w)) where
   granted : Affordable a.cells a.allowance a.charged v w
-  granted = affordable a.cells a.allowance a.charged v w free
+  granted = affordable a.cells a.allowance a.charged v w (sym free)
 
   calls_below : r.calls ≤ v.ceiling
   calls_below = subst (λ u. u.answer.calls ≤ v.ceiling) (sym answered) (keeps.fair w granted.accepted).calls
@@ -44,7 +44,7 @@ module _ (a : Account) {v : Value} {w w' : List Row} {r : Answer} (keeps : Keeps
       let calls = ap (λ u. u.answer.calls) answered in
       let told = ap (λ u. u.answer.verdict) answered in
       let tube = ap (λ u. u.tube) answered in
-      (free, cc, λ c. record {
+      (sym free, cc, λ c. record {
         keeps = keeps;
         standing = refl;
         sized = granted.sized;
