@@ -31,6 +31,7 @@ fn commit(proposal: Proposal, table: &mut [Row], work: &[Row]) -> u64
 {
     match proposal.commit(table, work) {
         Ok(rest) => rest.charged(),
+        // No unwrap: a refused proposal can't be dropped.
         Err(refused) => {
             let _ = refused.standing.withdraw();
             unreachable()
@@ -58,6 +59,7 @@ pub(crate) fn use_on_track<C: Contractor>(contractor: &mut C, table: &mut [Row])
                 calls: rest.charged(),
             }
         }
+        // No unwrap: a refused proposal can't be dropped.
         Err(refused) => {
             let _ = refused.standing.withdraw();
             unreachable()

@@ -8,7 +8,7 @@ use Rattle.contractor.specs.declared.answer.Verdict.{Verdict}
 use Rattle.contractor.specs.declared.refusal.UseRefusal.{UseRefusal}
 use Rattle.track.specs.Histories.{proposing, standing_after, Uses}
 use Rattle.track.specs.Refusals.{afford_refusal, first_of, use_refusal}
-use Rattle.track.specs.Standings.{one_use}
+use Rattle.track.specs.Standings.{stands_at, refusal_with, one_use}
 use Rattle.track.specs.declared.account.Account.{Account}
 use Rattle.track.specs.declared.refusal.TrackRefusal.{TrackRefusal}
 
@@ -28,7 +28,7 @@ affordable cells allowance charged v w h =
     let later = k.1 in
     record { accepted = record { free = k.0 }; sized = grind (arith, nat_tests, later); afforded = grind (arith, nat_tests, later) }
 
-module _ (a : Account) {v : Value} {w w' : List Row} {r : Answer} (keeps : Keeps v) (free : None ≡ use_refusal a.cells a.allowance a.charged v w) (answered : ◌≡◌ {A = Narrowed} (record { answer = r; tube = w' }) (v.narrowed w)) where
+module _ (a : Account) {v : Value} {w w' : List Row} {r : Answer} (keeps : Keeps v) (free : None ≡ refusal_with a v w) (answered : ◌≡◌ {A = Narrowed} (record { answer = r; tube = w' }) (v.narrowed w)) where
   granted : Affordable a.cells a.allowance a.charged v w
   granted = affordable a.cells a.allowance a.charged v w (sym free)
 
@@ -39,18 +39,21 @@ module _ (a : Account) {v : Value} {w w' : List Row} {r : Answer} (keeps : Keeps
   afforded_calls = omega (arith, calls_below, granted.afforded)
 
   -- by the verdict d, with the calls charged
-  pub used_from : (b : Account) → b.cells ≡ a.cells → b.allowance ≡ a.allowance → b.charged ≡ a.charged + r.calls → (d : Verdict) → r.verdict ≡ d → (use_refusal a.cells a.allowance a.charged v w ≡ None) × ((v.narrowed w).answer.verdict ≡ d) × ((c : List Row) → Uses (record { cells = a.cells; allowance = a.allowance; charged = a.charged; standing = proposing; committed = c; work = w }) (one_use v w) (record { cells = b.cells; allowance = b.allowance; charged = b.charged; standing = standing_after d; committed = c; work = w' }))
+  pub used_from : (b : Account) → b.cells ≡ a.cells → b.allowance ≡ a.allowance → b.charged ≡ a.charged + r.calls → (d : Verdict) → r.verdict ≡ d → (refusal_with a v w ≡ None) × ((v.narrowed w).answer.verdict ≡ d) × ((c : List Row) → Uses (stands_at a proposing c w) (one_use v w) (stands_at b (standing_after d) c w'))
   used_from b cells allowance charged d verdict =
       let calls = ap (λ u. u.answer.calls) answered in
       let told = ap (λ u. u.answer.verdict) answered in
-      let tube = ap (λ u. u.tube) answered in
-      (sym free, cc, λ c. record {
-        keeps = keeps;
-        standing = refl;
-        sized = granted.sized;
-        on = refl;
-        accepted = granted.accepted;
-        afforded = granted.afforded;
-        answered = refl;
-        after = cc;
-      })
+      let tube = ap (λ u. u.tube) answered in (
+        sym free,
+        cc,
+        λ c. record {
+          keeps = keeps;
+          standing = refl;
+          sized = granted.sized;
+          on = refl;
+          accepted = granted.accepted;
+          afforded = granted.afforded;
+          answered = refl;
+          after = cc;
+        },
+      )

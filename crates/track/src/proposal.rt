@@ -1,8 +1,7 @@
 // An open proposal: contractors are applied to it, and it is committed or withdrawn.
 ghost use Rattle.std.specs.Prelude.{◌≡◌, ◌-◌};
 ghost use Rattle.std.specs.Result.{result_err};
-ghost use Rattle.track.specs.Refusals.{use_refusal};
-ghost use Rattle.track.specs.Standings.{Using, Committing, Withdrawing};
+ghost use Rattle.track.specs.Standings.{refusal_with, Using, Committing, Withdrawing};
 
 use crate::answer::{Refused, Used};
 use crate::refusal::TrackRefusal;
@@ -37,7 +36,7 @@ impl Proposal {
 
     // Whether a use is accepted, or why it would be refused, the smallest number first.
     fn check<C: Contractor>(&self, contractor: &C, work: &[Row]) -> Result<(), TrackRefusal>
-        ensures { result_err result ≡ use_refusal self.now.account.cells self.now.account.allowance self.now.account.charged (C.value contractor.now) work.now }
+        ensures { result_err result ≡ refusal_with self.now.account (C.value contractor.now) work.now }
     {
         contractor.check(work)?;
         if work.len() != self.account.cells {
