@@ -32,11 +32,9 @@ module _ (a : Account) {v : Value} {w w' : List Row} {r : Answer} (keeps : Keeps
   granted : Affordable a.cells a.allowance a.charged v w
   granted = affordable a.cells a.allowance a.charged v w (sym free)
 
-  calls_below : r.calls ≤ v.ceiling
-  calls_below = subst (λ u. u.answer.calls ≤ v.ceiling) (sym answered) (keeps.fair w granted.accepted).calls
-
-  pub afforded_calls : a.charged + r.calls ≤ a.allowance
-  afforded_calls = omega (arith, calls_below, granted.afforded)
+  -- the ceiling is left of the allowance, and no more than it is charged
+  pub afforded : (a.charged + v.ceiling ≤ a.allowance) × (r.calls ≤ v.ceiling)
+  afforded = (granted.afforded, subst (λ u. u.answer.calls ≤ v.ceiling) (sym answered) (keeps.fair w granted.accepted).calls)
 
   -- by the verdict d, with the calls charged
   pub used_from : (b : Account) → b.cells ≡ a.cells → b.allowance ≡ a.allowance → b.charged ≡ a.charged + r.calls → (d : Verdict) → r.verdict ≡ d → (refusal_with a v w ≡ None) × ((v.narrowed w).answer.verdict ≡ d) × ((c : List Row) → Uses (stands_at a proposing c w) (one_use v w) (stands_at b (standing_after d) c w'))

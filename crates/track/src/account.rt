@@ -34,7 +34,7 @@ impl Account {
         self.charged += calls;
     }
 
-    // Why no table may be copied to the other.
+    // Whether one table may be copied to the other, or why not.
     pub(crate) fn check_copy(self, committed: &[Row], work: &[Row]) -> Result<(), TrackRefusal>
         ensures { result_err result ≡ copy_refusal self.cells committed.now work.now }
     {

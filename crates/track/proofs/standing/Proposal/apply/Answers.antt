@@ -1,9 +1,12 @@
+use Rattle.std.proofs.Common.{arith}
 use Rattle.contractor.specs.declared.answer.Verdict.TheVariants.{Kept, Empty}
-use Rattle.track.proofs.Applying.{afforded_calls, used_from}
+use Rattle.track.proofs.Applying.{afforded, used_from}
 use Rattle.track.proofs.standing.Proposal.apply.Goals as goal
 
 pub charge-requires : goal.charge-requires
-charge-requires g c = afforded_calls c.args.self.account (g.met.C.Contractor.keeps c.args.contractor.now) c.in_default.ensures c.narrow-answer.ensures.answer
+charge-requires g c =
+    let enough = afforded c.args.self.account (g.met.C.Contractor.keeps c.args.contractor.now) c.in_default.ensures c.narrow-answer.ensures.answer in
+    omega (arith, enough.0, enough.1)
 
 pub returns-in-Kept-clause-result : goal.returns-in-Kept-clause-result
 returns-in-Kept-clause-result g c =
