@@ -8,8 +8,8 @@ ghost use Rattle.survey.specs.Surveys.{widest, first_tube, Reported, Surveyed};
 ghost use Rattle.survey.specs.Swims.{Worth};
 ghost use Rattle.survey.specs.Tracks.{first_refusal};
 
-use crate::tracked::{Ending, use_on_track};
-use contractor::{Both, Contractor, Repeat, Rounds};
+use crate::tracked::use_on_track;
+use contractor::{Answer, Both, Contractor, Repeat, Rounds, Verdict};
 use net::Net;
 use swimlog::{Report, Sizes, read_log};
 use tube::{Interval, MAX_CELLS, Row};
@@ -29,10 +29,7 @@ fn rounds(count: u32) -> Rounds
     requires { is_count count ≡ true }
     ensures { count_of result ≡ count }
 {
-    match Rounds::new(count) {
-        Ok(rounds) => rounds,
-        Err(_) => unreachable(),
-    }
+    Rounds::new(count).unwrap()
 }
 
 // A table with as many rows as any tube, all as wide as can be.
@@ -49,14 +46,15 @@ fn report_by<C: Contractor>(contractor: &mut C, sizes: Sizes) -> Report
     ensures fair { Fair (C.value contractor.old) (first_tube sizes.gates) ((C.value contractor.old).narrowed (first_tube sizes.gates)) }
 {
     let mut tube = widest_table();
-    match use_on_track(contractor, &mut tube[0..sizes.cells()]) {
-        Ending::Kept { calls, mark } => Report::Kept {
+    let Answer { verdict, calls } = use_on_track(contractor, &mut tube[0..sizes.cells()]);
+    match verdict {
+        Verdict::Kept(mark) => Report::Kept {
             calls,
             mark,
             sizes,
             tube,
         },
-        Ending::Empty { fault, calls } => Report::Empty { fault, calls },
+        Verdict::Empty(fault) => Report::Empty { fault, calls },
     }
 }
 

@@ -4,21 +4,12 @@ ghost use Rattle.tube.specs.Tubes.{is_tube};
 ghost use Rattle.contractor.specs.Contractors.{Fair};
 ghost use Rattle.survey.specs.Tracks.{Fresh, first_refusal, Ended};
 
-use contractor::{Contractor, Fault, Mark};
-use track::{Proposal, Refused, Used, make};
+use contractor::{Answer, Contractor, Verdict};
+use track::{Proposal, Used, make};
 use tube::{MAX_CELLS, Row};
 
 // The calls that a survey may charge.
 pub const ALLOWANCE: u64 = 1_000_000;
-
-// How it ended.
-#[derive(Clone, Copy)]
-pub(crate) enum Ending {
-    // Committed: the table is narrowed.
-    Kept { calls: u64, mark: Mark },
-    // Closed: the table is as it was.
-    Empty { fault: Fault, calls: u64 },
-}
 
 // A proposal on a new track over a tube.
 fn open(table: &[Row], work: &mut [Row]) -> Proposal
@@ -27,29 +18,20 @@ fn open(table: &[Row], work: &mut [Row]) -> Proposal
     ensures fresh { Fresh (length table.now) result }
     ensures copied { work.new ≡ table.now }
 {
-    let Ok(rest) = make(table, ALLOWANCE) else {
-        unreachable()
-    };
-    match rest.propose(table, work) {
-        Ok(proposal) => proposal,
-        Err(
-            Refused {
-                standing: _,
-                refusal: _,
-            },
-        ) => unreachable(),
-    }
+    let rest = make(table, ALLOWANCE).unwrap();
+    rest.propose(table, work).unwrap()
 }
 
 // Makes the work table the committed one, and tells the calls charged.
 fn commit(proposal: Proposal, table: &mut [Row], work: &[Row]) -> u64
-    requires table { length table.old ≡ proposal.cells }
-    requires work { length work.now ≡ proposal.cells }
-    ensures charged { result ≡ proposal.charged }
+    requires table { length table.old ≡ proposal.account.cells }
+    requires work { length work.now ≡ proposal.account.cells }
+    ensures charged { result ≡ proposal.account.charged }
     ensures copied { table.new ≡ work.now }
 {
     match proposal.commit(table, work) {
         Ok(rest) => rest.charged(),
+        // No unwrap: a refused proposal can't be dropped.
         Err(refused) => {
             let _ = refused.standing.withdraw();
             unreachable()
@@ -58,7 +40,7 @@ fn commit(proposal: Proposal, table: &mut [Row], work: &[Row]) -> u64
 }
 
 // Uses a contractor on a tube, by a proposal that is committed, or closed where it is emptied.
-pub(crate) fn use_on_track<C: Contractor>(contractor: &mut C, table: &mut [Row]) -> Ending
+pub(crate) fn use_on_track<C: Contractor>(contractor: &mut C, table: &mut [Row]) -> Answer
     requires { first_refusal (C.value contractor.old) table.old ≡ None }
     ensures ended { Ended (C.value contractor.old) table.old table.new result }
     ensures fair { Fair (C.value contractor.old) table.old ((C.value contractor.old).narrowed table.old) }
@@ -66,19 +48,20 @@ pub(crate) fn use_on_track<C: Contractor>(contractor: &mut C, table: &mut [Row])
     let mut rows = [Row { low: 0, high: 0 }; MAX_CELLS];
     let work = &mut rows[0..table.len()];
     match open(table, work).apply(contractor, work) {
-        Used::Kept(proposal, mark) => Ending::Kept {
+        Ok(Used::Kept(proposal, mark)) => Answer {
+            verdict: Verdict::Kept(mark),
             calls: commit(proposal, table, work),
-            mark,
         },
-        Used::Emptied(emptied) => {
+        Ok(Used::Emptied(emptied)) => {
             let (fault, rest) = emptied.close();
-            Ending::Empty {
-                fault,
+            Answer {
+                verdict: Verdict::Empty(fault),
                 calls: rest.charged(),
             }
         }
-        Used::Refused(proposal, _) => {
-            let _ = proposal.withdraw();
+        // No unwrap: a refused proposal can't be dropped.
+        Err(refused) => {
+            let _ = refused.standing.withdraw();
             unreachable()
         }
     }

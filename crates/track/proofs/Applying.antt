@@ -1,15 +1,15 @@
 -- A use that is not refused is one step of a history. Assumes nothing.
-use Rattle.std.proofs.Common.{◌≡◌, ℕ, ◌+◌, ◌≤◌, true, List, length, Some, None, Option, sym, refl, ap, ◌∙◌, subst, arith}
+use Rattle.std.proofs.Common.{◌≡◌, ℕ, ◌+◌, ◌≤◌, List, length, Some, None, Option, sym, refl, ap, subst, arith}
 use Rattle.std.proofs.lemmas.Bool.Decides.{nat_tests}
 use Rattle.tube.specs.declared.row.Row.{Row}
 use Rattle.contractor.specs.Contractors.{Value, Narrowed, Keeps, Accepted, refusal}
 use Rattle.contractor.specs.declared.answer.Answer.{Answer}
 use Rattle.contractor.specs.declared.answer.Verdict.{Verdict}
 use Rattle.contractor.specs.declared.refusal.UseRefusal.{UseRefusal}
-use Rattle.track.specs.Histories.{State, proposing, standing_after, Uses}
-use Rattle.track.specs.Limits.{most_allowance, is_paid}
+use Rattle.track.specs.Histories.{proposing, standing_after, Uses}
 use Rattle.track.specs.Refusals.{afford_refusal, first_of, use_refusal}
-use Rattle.track.specs.Standings.{one_use}
+use Rattle.track.specs.Standings.{stands_at, refusal_with, one_use}
+use Rattle.track.specs.declared.account.Account.{Account}
 use Rattle.track.specs.declared.refusal.TrackRefusal.{TrackRefusal}
 
 -- what a use that is not refused has
@@ -19,7 +19,7 @@ pub record Affordable (cells allowance charged : ℕ) (v : Value) (w : List Row)
   pub afforded : charged + v.ceiling ≤ allowance
 
 first_none : (o : Option UseRefusal) (later : Option TrackRefusal) → first_of o later ≡ None → (o ≡ None) × (later ≡ None)
-first_none (Some e) later h = let z : ◌≡◌ {A = ℕ} 0 1 = cc in absurd (omega arith)
+first_none (Some e) later h = cc
 first_none None later h = (refl, h)
 
 pub affordable : (cells allowance charged : ℕ) (v : Value) (w : List Row) → use_refusal cells allowance charged v w ≡ None → Affordable cells allowance charged v w
@@ -28,34 +28,30 @@ affordable cells allowance charged v w h =
     let later = k.1 in
     record { accepted = record { free = k.0 }; sized = grind (arith, nat_tests, later); afforded = grind (arith, nat_tests, later) }
 
-module _ (cells allowance charged : ℕ) (v : Value) (w w' : List Row) (r : Answer) (keeps : Keeps v) (free : use_refusal cells allowance charged v w ≡ None) (answered : ◌≡◌ {A = Narrowed} (record { answer = r; tube = w' }) (v.narrowed w)) where
-  a : Affordable cells allowance charged v w
-  a = affordable cells allowance charged v w free
+module _ (a : Account) {v : Value} {w w' : List Row} {r : Answer} (keeps : Keeps v) (free : None ≡ refusal_with a v w) (answered : ◌≡◌ {A = Narrowed} (record { answer = r; tube = w' }) (v.narrowed w)) where
+  granted : Affordable a.cells a.allowance a.charged v w
+  granted = affordable a.cells a.allowance a.charged v w (sym free)
 
-  pub calls_below : r.calls ≤ v.ceiling
-  calls_below = subst (λ u. u.answer.calls ≤ v.ceiling) (sym answered) (keeps.fair w a.accepted).calls
+  -- the ceiling is left of the allowance, and no more than it is charged
+  pub afforded : (a.charged + v.ceiling ≤ a.allowance) × (r.calls ≤ v.ceiling)
+  afforded = (granted.afforded, subst (λ u. u.answer.calls ≤ v.ceiling) (sym answered) (keeps.fair w granted.accepted).calls)
 
-  pub paid_after : is_paid allowance charged ≡ true → is_paid allowance (charged + r.calls) ≡ true
-  paid_after paid =
-      let b = calls_below in
-      let f = a.afforded in
-      grind (arith, nat_tests)
-
-  -- by the verdict d
-  pub uses_from : (c : List Row) (d : Verdict) → r.verdict ≡ d → Uses (record { cells = cells; allowance = allowance; charged = charged; standing = proposing; committed = c; work = w }) (one_use v w) (record { cells = cells; allowance = allowance; charged = charged + r.calls; standing = standing_after d; committed = c; work = w' })
-  uses_from c d e = record {
-    keeps = keeps;
-    standing = refl;
-    sized = a.sized;
-    on = refl;
-    accepted = a.accepted;
-    afforded = a.afforded;
-    answered = refl;
-    after =
-        let after : Narrowed → State = λ u. record { cells = cells; allowance = allowance; charged = charged + u.answer.calls; standing = standing_after u.answer.verdict; committed = c; work = u.tube } in
-        let told : Verdict → State = λ x. record { cells = cells; allowance = allowance; charged = charged + r.calls; standing = standing_after x; committed = c; work = w' } in
-        ap told (sym e) ∙ ap after answered;
-  }
-
-pub paid_bound : (allowance charged : ℕ) → is_paid allowance charged ≡ true → charged ≤ most_allowance
-paid_bound allowance charged h = grind (arith, nat_tests)
+  -- by the verdict d, with the calls charged
+  pub used_from : (b : Account) → b.cells ≡ a.cells → b.allowance ≡ a.allowance → b.charged ≡ a.charged + r.calls → (d : Verdict) → r.verdict ≡ d → (refusal_with a v w ≡ None) × ((v.narrowed w).answer.verdict ≡ d) × ((c : List Row) → Uses (stands_at a proposing c w) (one_use v w) (stands_at b (standing_after d) c w'))
+  used_from b cells allowance charged d verdict =
+      let calls = ap (λ u. u.answer.calls) answered in
+      let told = ap (λ u. u.answer.verdict) answered in
+      let tube = ap (λ u. u.tube) answered in (
+        sym free,
+        cc,
+        λ c. record {
+          keeps = keeps;
+          standing = refl;
+          sized = granted.sized;
+          on = refl;
+          accepted = granted.accepted;
+          afforded = granted.afforded;
+          answered = refl;
+          after = cc;
+        },
+      )

@@ -3,7 +3,6 @@ use Rattle.std.proofs.Common.{◌≡◌, ℕ, ◌+◌, ◌≤◌, List, [], ◌�
 use Rattle.std.proofs.lemmas.Bool.{cases_Bool}
 use Rattle.std.specs.List.{AllByRecursion}
 use Rattle.tube.specs.declared.row.Row.{Row}
-use Rattle.contractor.specs.declared.answer.Fault.{Fault}
 use Rattle.contractor.specs.declared.answer.Verdict.{Verdict}
 use Rattle.contractor.specs.declared.answer.Verdict.TheVariants.{Kept, Empty}
 use Rattle.tube.specs.Tubes.{Trajectory, Lies, Inside, single}
@@ -45,8 +44,8 @@ pub record Inv (first : List Row) (cs : List Call) (s : State) : Type 0 where
   pub ceilings : AllByRecursion (λ u. u.answer.calls ≤ u.contractor.ceiling) (all_uses cs)
   pub paid : s.charged ≤ s.allowance
 
-going : (cs : List Call) (s : State) → Open s.standing cs s → s.standing ≡ proposing → Going cs s
-going cs s o e = subst (λ d. Open d cs s) e o
+open_as : (d : Standing) (cs : List Call) (s : State) → Open s.standing cs s → s.standing ≡ d → Open d cs s
+open_as d cs s o e = subst (λ x. Open x cs s) e o
 
 open_after : (first : List Row) (cs : List Call) (s : State) (u : Use) (v : Verdict) → Going cs s → Keeps u.contractor → v ≡ u.answer.verdict → Next s (used u) (record { cells = s.cells; allowance = s.allowance; charged = s.charged + u.answer.calls; standing = standing_after u.answer.verdict; committed = s.committed; work = (u.contractor.narrowed s.work).tube }) → Open (standing_after v) (used u ∷ cs) (record { cells = s.cells; allowance = s.allowance; charged = s.charged + u.answer.calls; standing = standing_after u.answer.verdict; committed = s.committed; work = (u.contractor.narrowed s.work).tube })
 open_after first cs s u (Kept m) g k e n =
@@ -95,14 +94,14 @@ step first cs s (proposed c) t i n = subst (Inv first (proposed c ∷ cs)) (sym 
 step first cs s (used u) t i n = subst (Inv first (used u ∷ cs)) (sym n.after) (record {
   none_lost = i.none_lost;
   narrower = i.narrower;
-  stands = open_after first cs s u u.answer.verdict (going cs s i.stands n.standing) n.keeps refl (subst (Next s (used u)) n.after n);
+  stands = open_after first cs s u u.answer.verdict (open_as proposing cs s i.stands n.standing) n.keeps refl (subst (Next s (used u)) n.after n);
   exact = λ p. (exact_use s u t n p, i.exact p);
   charged = omega (arith, i.charged);
   ceilings = (under s u t n, i.ceilings);
   paid = omega (arith, under s u t n, n.afforded);
 })
 step first cs s committed t i n =
-    let g = going cs s i.stands n.0 in
+    let g = open_as proposing cs s i.stands n.0 in
     subst (Inv first (committed ∷ cs)) (sym n.2) (record {
       none_lost = λ p l o. let r = all_join _ (open_uses cs) (committed_uses cs) o in g.holds p (i.none_lost p l r.1) r.0;
       narrower = inside_trans s.work s.committed first g.inside i.narrower;
@@ -144,17 +143,14 @@ all allowance first [] s h =
     })
 all allowance first (c ∷ cs) t h = step first cs h.0 c t (all allowance first cs h.0 h.1) h.2
 
-gone : (cs : List Call) (s : State) (f : Fault) → Open s.standing cs s → s.standing ≡ emptied f → Gone cs s
-gone cs s f o e = subst (λ d. Open d cs s) e o
-
 pub histories_keep : (allowance : ℕ) (first : List Row) → HistoriesKeep allowance first
 histories_keep allowance first cs s h =
     let i = all allowance first cs s h in
     record {
       none_lost = i.none_lost;
       narrower = i.narrower;
-      truly_empty = λ f e p l o. let g = gone cs s f i.stands e in g.none p (subst (λ t. Lies t p) g.from l) o;
-      still_committed = λ f e. sym (gone cs s f i.stands e).from;
+      truly_empty = λ f e p l o. let g = open_as (emptied f) cs s i.stands e in g.none p (subst (λ t. Lies t p) g.from l) o;
+      still_committed = λ f e. sym (open_as (emptied f) cs s i.stands e).from;
       exact_on_one = i.exact;
       all_charged = i.charged;
       under_ceilings = i.ceilings;

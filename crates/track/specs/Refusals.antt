@@ -1,5 +1,5 @@
--- Why a call on a track is refused, when each reason comes, and its number. Assumes nothing.
-use Rattle.std.specs.Prelude.{ℕ, ◌+◌, cond, not, ◌&&◌, List, length, Some, None, Option, ◌==◌, nat_le}
+-- Why a call on a track is refused, when each reason comes, its number and its words. Assumes nothing.
+use Rattle.std.specs.Prelude.{ℕ, ◌+◌, cond, not, ◌&&◌, List, length, Some, None, Option, ◌==◌, nat_le, codes}
 use Rattle.tube.specs.Tubes.{is_tube}
 use Rattle.tube.specs.declared.row.Row.{Row}
 use Rattle.contractor.specs.Contractors.{Value, refusal}
@@ -16,6 +16,14 @@ number_of TooCostly = 9
 number_of WrongLength = 10
 number_of BadAllowance = 11
 number_of OverAllowance = 12
+
+abbrev pub words : TrackRefusal → List ℕ
+words NotATube = codes "no tube, or fewer cells than the contractor needs"
+words TooHigh = codes "a contractor more than 16 layers high"
+words TooCostly = codes "a contractor that may make more than 1,000,000,000 calls"
+words WrongLength = codes "a table of another length than the track's first"
+words BadAllowance = codes "an allowance outside 1 to 1,000,000,000,000"
+words OverAllowance = codes "the calls charged and the contractor's ceiling pass the allowance"
 
 -- the refusals of any use come first on a track too
 abbrev pub of_use : UseRefusal → TrackRefusal

@@ -9,17 +9,7 @@ impl Emptied {
     pub fn close(self) -> (Fault, Rest)
         ensures { Closing self result.0 result.1 }
     {
-        let Emptied {
-            cells,
-            allowance,
-            charged,
-            fault,
-        } = self;
-        let rest = Rest {
-            cells,
-            allowance,
-            charged,
-        };
-        (fault, rest)
+        let Emptied { account, fault } = self;
+        (fault, Rest { account })
     }
 }

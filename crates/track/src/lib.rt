@@ -1,6 +1,7 @@
 // A track: a committed tube and proposals to narrow it, under an allowance of calls.
 #![tactic(auto)]
 
+mod account;
 mod answer;
 mod emptied;
 mod proposal;

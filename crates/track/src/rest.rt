@@ -2,6 +2,7 @@
 ghost use Rattle.std.specs.Prelude.{◌≡◌};
 ghost use Rattle.track.specs.Standings.{Made, Proposing};
 
+use crate::account::Account;
 use crate::answer::Refused;
 use crate::refusal::TrackRefusal;
 use crate::standing::{Proposal, Rest};
@@ -21,9 +22,11 @@ pub fn make(committed: &[Row], allowance: u64) -> Result<Rest, TrackRefusal>
         return Err(TrackRefusal::BadAllowance);
     }
     Ok(Rest {
-        cells: committed.len(),
-        allowance,
-        charged: 0,
+        account: Account {
+            cells: committed.len(),
+            allowance,
+            charged: 0,
+        },
     })
 }
 
@@ -32,36 +35,29 @@ impl Rest {
     pub fn propose(self, committed: &[Row], work: &mut [Row]) -> Result<Proposal, Refused<Rest>>
         ensures { Proposing self committed.now work.old work.new result }
     {
-        if committed.len() != self.cells || work.len() != self.cells {
+        if let Err(refusal) = self.account.check_copy(committed, work) {
             return Err(Refused {
                 standing: self,
-                refusal: TrackRefusal::WrongLength,
+                refusal,
             });
         }
         work.copy_from_slice(committed);
-        let Rest {
-            cells,
-            allowance,
-            charged,
-        } = self;
         Ok(Proposal {
-            cells,
-            allowance,
-            charged,
+            account: self.account,
         })
     }
 
     // The calls charged so far.
     pub fn charged(&self) -> u64
-        ensures { result ≡ self.now.charged }
+        ensures { result ≡ self.now.account.charged }
     {
-        self.charged
+        self.account.charged
     }
 
     // The most calls that may be charged.
     pub fn allowance(&self) -> u64
-        ensures { result ≡ self.now.allowance }
+        ensures { result ≡ self.now.account.allowance }
     {
-        self.allowance
+        self.account.allowance
     }
 }

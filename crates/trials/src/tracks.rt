@@ -43,11 +43,7 @@ fn proposing(committed: &[Row], work: &mut [Row]) -> u8 {
                 let _ = proposal.withdraw();
                 0
             }
-            Err(refused) => {
-                let Refused { standing, refusal } = refused;
-                drop(standing);
-                refusal.number()
-            }
+            Err(refused) => refused.refusal.number(),
         },
         Err(refusal) => refusal.number(),
     }
@@ -76,11 +72,7 @@ fn committing(committed: &mut [Row], work: &[Row]) -> u8 {
                     refusal.number()
                 }
             },
-            Err(refused) => {
-                let Refused { standing, refusal } = refused;
-                drop(standing);
-                refusal.number()
-            }
+            Err(refused) => refused.refusal.number(),
         },
         Err(refusal) => refusal.number(),
     }
@@ -103,13 +95,14 @@ fn using<C: Contractor>(allowance: u64, contractor: &mut C, work: &mut [Row]) ->
     match make(&[ROW; 3], allowance) {
         Ok(rest) => match rest.propose(&[ROW; 3], &mut [ROW; 3]) {
             Ok(proposal) => match proposal.apply(contractor, work) {
-                Used::Kept(proposal, _) => Told::Kept(proposal.withdraw().charged()),
-                Used::Emptied(emptied) => {
+                Ok(Used::Kept(proposal, _)) => Told::Kept(proposal.withdraw().charged()),
+                Ok(Used::Emptied(emptied)) => {
                     let (_, rest) = emptied.close();
                     Told::Emptied(rest.charged())
                 }
-                Used::Refused(proposal, refusal) => {
-                    let rest = proposal.withdraw();
+                Err(refused) => {
+                    let Refused { standing, refusal } = refused;
+                    let rest = standing.withdraw();
                     if rest.charged() == 0 {
                         Told::Refused(refusal.number())
                     } else {
@@ -117,11 +110,7 @@ fn using<C: Contractor>(allowance: u64, contractor: &mut C, work: &mut [Row]) ->
                     }
                 }
             },
-            Err(refused) => {
-                let Refused { standing, refusal } = refused;
-                drop(standing);
-                Told::Refused(refusal.number())
-            }
+            Err(refused) => Told::Refused(refused.refusal.number()),
         },
         Err(refusal) => Told::Refused(refusal.number()),
     }

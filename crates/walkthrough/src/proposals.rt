@@ -6,13 +6,6 @@ use tube::Row;
 // The calls that the tour allows itself.
 const ALLOWANCE: u64 = 4;
 
-// What is to become of a proposal that is kept.
-#[derive(Clone, Copy)]
-enum Plan {
-    Commit,
-    Withdraw,
-}
-
 // What became of a proposal. It was spent before this is told: none can be forgotten.
 #[derive(Clone, Copy)]
 enum Ending {
@@ -44,7 +37,7 @@ pub(crate) fn show(
         rt,
         rest,
         Bound::new(20, 1, 2960, 3040)?,
-        Plan::Commit,
+        commit,
         committed,
         work,
     )?;
@@ -52,7 +45,7 @@ pub(crate) fn show(
         rt,
         rest,
         Bound::new(21, 1, 2990, 2995)?,
-        Plan::Withdraw,
+        withdraw,
         committed,
         work,
     )?;
@@ -60,7 +53,7 @@ pub(crate) fn show(
         rt,
         rest,
         Bound::new(22, 1, 4000, 4100)?,
-        Plan::Commit,
+        commit,
         committed,
         work,
     )?;
@@ -68,7 +61,7 @@ pub(crate) fn show(
         rt,
         rest,
         Bound::new(23, 1, 2980, 3020)?,
-        Plan::Commit,
+        commit,
         committed,
         work,
     )?;
@@ -76,7 +69,7 @@ pub(crate) fn show(
         rt,
         rest,
         Bound::new(24, 1, 3000, 3010)?,
-        Plan::Commit,
+        commit,
         committed,
         work,
     )?;
@@ -88,16 +81,18 @@ pub(crate) fn show(
 }
 
 // One proposal from its opening to its end, told call by call.
-fn go(
+fn go<E: FnOnce(Proposal, &mut [Row], &[Row]) -> (Rest, Ending)>(
     rt: &HostRuntime,
     rest: Rest,
     bound: Bound,
-    plan: Plan,
+    end: E,
     committed: &mut [Row],
     work: &mut [Row],
-) -> anyhow::Result<Rest> {
+) -> anyhow::Result<Rest>
+    requires { E.IsAlwaysCallable end }
+{
     let before = rest.charged();
-    let (rest, ending) = propose(rest, bound, plan, committed, work);
+    let (rest, ending) = propose(rest, bound, end, committed, work);
     let after = rest.charged();
     println!(rt; "propose: proposing, {before} calls charged")?;
     match ending {
@@ -129,24 +124,21 @@ fn go(
     Ok(rest)
 }
 
-fn propose(
+// Uses a bound on a new proposal. One that is kept comes to its end by the step that is handed in.
+fn propose<E: FnOnce(Proposal, &mut [Row], &[Row]) -> (Rest, Ending)>(
     rest: Rest,
     mut bound: Bound,
-    plan: Plan,
+    end: E,
     committed: &mut [Row],
     work: &mut [Row],
-) -> (Rest, Ending) {
+) -> (Rest, Ending)
+    requires { E.IsAlwaysCallable end }
+{
     match rest.propose(committed, work) {
-        Err(refused) => {
-            let Refused { standing, refusal } = refused;
-            (standing, Ending::Refused(refusal.number()))
-        }
+        Err(Refused { standing, refusal }) => (standing, Ending::Refused(refusal.number())),
         Ok(proposal) => match proposal.apply(&mut bound, work) {
-            Used::Refused(proposal, refusal) => (
-                proposal.withdraw(),
-                Ending::Refused(refusal.number()),
-            ),
-            Used::Emptied(emptied) => {
+            Err(refused) => give_up(refused),
+            Ok(Used::Emptied(emptied)) => {
                 let (fault, rest) = emptied.close();
                 (
                     rest,
@@ -156,20 +148,24 @@ fn propose(
                     },
                 )
             }
-            Used::Kept(proposal, _) => end(proposal, plan, committed, work),
+            Ok(Used::Kept(proposal, _)) => end(proposal, committed, work),
         },
     }
 }
 
-fn end(proposal: Proposal, plan: Plan, committed: &mut [Row], work: &[Row]) -> (Rest, Ending) {
-    match plan {
-        Plan::Withdraw => (proposal.withdraw(), Ending::Withdrawn),
-        Plan::Commit => match proposal.commit(committed, work) {
-            Ok(rest) => (rest, Ending::Committed),
-            Err(refused) => {
-                let Refused { standing, refusal } = refused;
-                (standing.withdraw(), Ending::Refused(refusal.number()))
-            }
-        },
+fn commit(proposal: Proposal, committed: &mut [Row], work: &[Row]) -> (Rest, Ending) {
+    match proposal.commit(committed, work) {
+        Ok(rest) => (rest, Ending::Committed),
+        Err(refused) => give_up(refused),
     }
+}
+
+fn withdraw(proposal: Proposal, _committed: &mut [Row], _work: &[Row]) -> (Rest, Ending) {
+    (proposal.withdraw(), Ending::Withdrawn)
+}
+
+// What was refused on a proposal is told, and the proposal withdrawn.
+fn give_up(refused: Refused<Proposal>) -> (Rest, Ending) {
+    let Refused { standing, refusal } = refused;
+    (standing.withdraw(), Ending::Refused(refusal.number()))
 }

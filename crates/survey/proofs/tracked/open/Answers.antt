@@ -1,16 +1,23 @@
-use Rattle.survey.proofs.Tracking.{never_refused, fresh, copied}
+use Rattle.std.proofs.Common.{subst}
+use Rattle.track.specs.Standings.{Made, Proposing}
+use Rattle.survey.specs.Tracks.{survey_allowance}
+use Rattle.survey.proofs.Tracking.{makes, proposes, fresh, copied}
 use Rattle.survey.proofs.tracked.open.Goals as goal
 
-pub unreachable-requires-in-Err : goal.unreachable-requires-in-Err
-unreachable-requires-in-Err c =
-    never_refused c.args.table.now c.in-Ok.rest c.in-Ok.ensures c.args.work.now c.propose.new.work c.in-Err.field-0 c.requires.sized c.in-Err.ensures
+pub unwrap-rest-requires : goal.unwrap-rest-requires
+unwrap-rest-requires c = makes c.args.table.now c.make.result c.requires.tube c.make.ensures
+
+pub unwrap-requires : goal.unwrap-requires
+unwrap-requires c =
+    let made = subst (Made c.args.table.now survey_allowance) c.unwrap-rest.ensures c.make.ensures in
+    proposes c.args.table.now c.unwrap-rest.result made c.args.work.now c.propose.new.work c.propose.result c.requires.sized c.propose.ensures
 
 pub returns : goal.returns
 returns c =
     let first = c.args.table.now in
-    let w = c.args.work.now in
-    let opened = c.in-Ok-propose.ensures in
+    let made = subst (Made first survey_allowance) c.unwrap-rest.ensures c.make.ensures in
+    let opened = subst (Proposing c.unwrap-rest.result first c.args.work.now c.propose.new.work) c.unwrap.ensures c.propose.ensures in
     record {
-      fresh = fresh first c.in-Ok.rest c.in-Ok.ensures w c.propose.new.work c.in-Ok-propose.proposal opened;
-      copied = copied first c.in-Ok.rest c.in-Ok.ensures w c.propose.new.work c.in-Ok-propose.proposal opened;
+      fresh = fresh first c.unwrap-rest.result made c.args.work.now c.propose.new.work c.unwrap.result opened;
+      copied = copied first c.unwrap-rest.result made c.args.work.now c.propose.new.work c.unwrap.result opened;
     }
