@@ -1,12 +1,15 @@
 -- The cells that a constraint mentions, in three slots. Assumes nothing.
-use Rattle.std.specs.Prelude.{◌≡◌, ℕ, ◌+◌, Bool, true, false, cond, not, ◌&&◌, ◌||◌, ◌≢◌, List, [], ◌∷◌, map, length, get_or, ◌==◌, nat_eq, slice_index_or, refl}
+use Rattle.std.specs.Prelude.{◌≡◌, ℕ, ◌+◌, Bool, true, false, cond, not, ◌&&◌, ◌||◌, ◌≢◌, List, [], ◌∷◌, map, length, get_or, ◌==◌, nat_eq, slice_index_or, ℤ, refl}
 use Rattle.std.proofs.Common.{sym, ap, ap₂, ◌∙◌, arith}
 use Rattle.std.specs.List.{AllByRecursion}
+use Rattle.std.specs.Ordering.{int_eq}
+use Rattle.std.proofs.lemmas.Int.{ints}
+use Rattle.std.proofs.lemmas.Bool.Decides.{Decides-int_eq}
 use Rattle.std.proofs.lemmas.Bool.{eqb-true, eqb-false, or_parts}
 use Rattle.tube.specs.Tubes.{most_cells, cell, nowhere}
 use Rattle.tube.specs.declared.row.Row.{Row}
 use Rattle.contractor.specs.Contractors.{Accepted}
-use Rattle.contractor.specs.Repetitions.{same_row}
+use Rattle.contractor.specs.Repetitions.{equal, same_row}
 use Rattle.contractor.specs.Accepting.{accepted_facts}
 use Rattle.constraint.specs.Kinds.{constraint_value}
 use Rattle.constraint.specs.Mentions.{constraint_cells, cell_slots}
@@ -105,12 +108,25 @@ narrower_counted k t c =
     ∙ among_chosen test c (cell_slots k)
     ∙ and_self (among c (cell_slots k)) (test c) (not_narrower k t c)
 
+-- the equality of rows that is derived says that they are the same
+int_eq_equal : (a b : ℤ) → int_eq a b ≡ equal a b
+int_eq_equal a b = grind (arith, ints, Decides-int_eq a b)
+
+eq_same_row : (r s : Row) → (int_eq r.low s.low && int_eq r.high s.high) ≡ same_row r s
+eq_same_row r s = ap₂ ◌&&◌ (int_eq_equal r.low s.low) (int_eq_equal r.high s.high)
+
+-- the test by which two rows are told apart
+abbrev pub differ : Row → Row → Bool
+differ r s = not (int_eq r.low s.low && int_eq r.high s.high)
+
 -- three rows before and after, compared
-pub compared : (t u : List Row) (n : ℕ) (cs : List ℕ) (before after : List Row) (a b c : Bool) → Three n cs → before ≡ map (cell t) cs → after ≡ map (cell u) cs → a ≡ same_row (slice_index_or before 0 nowhere) (slice_index_or after 0 nowhere) → b ≡ same_row (slice_index_or before 1 nowhere) (slice_index_or after 1 nowhere) → c ≡ same_row (slice_index_or before 2 nowhere) (slice_index_or after 2 nowhere) → not a ∷ not b ∷ not c ∷ [] ≡ map (narrower t u) cs
+pub compared : (t u : List Row) (n : ℕ) (cs : List ℕ) (before after : List Row) (a b c : Bool) → Three n cs → before ≡ map (cell t) cs → after ≡ map (cell u) cs → a ≡ differ (slice_index_or before 0 nowhere) (slice_index_or after 0 nowhere) → b ≡ differ (slice_index_or before 1 nowhere) (slice_index_or after 1 nowhere) → c ≡ differ (slice_index_or before 2 nowhere) (slice_index_or after 2 nowhere) → a ∷ b ∷ c ∷ [] ≡ map (narrower t u) cs
 compared t u n cs before after a b c three eb ea first second third =
     let row : (s : ℕ) → List Row → List ℕ → Row = λ s w ds. get_or (map (cell w) ds) s nowhere in
-    let x : not a ≡ narrower t u (slot cs 0) = ap not (first ∙ ap₂ same_row (ap (λ r. get_or r 0 nowhere) eb ∙ ap (row 0 t) three.are) (ap (λ r. get_or r 0 nowhere) ea ∙ ap (row 0 u) three.are)) in
-    let y : not b ≡ narrower t u (slot cs 1) = ap not (second ∙ ap₂ same_row (ap (λ r. get_or r 1 nowhere) eb ∙ ap (row 1 t) three.are) (ap (λ r. get_or r 1 nowhere) ea ∙ ap (row 1 u) three.are)) in
-    let z : not c ≡ narrower t u (slot cs 2) = ap not (third ∙ ap₂ same_row (ap (λ r. get_or r 2 nowhere) eb ∙ ap (row 2 t) three.are) (ap (λ r. get_or r 2 nowhere) ea ∙ ap (row 2 u) three.are)) in
-    let all : not a ∷ not b ∷ not c ∷ [] ≡ map (narrower t u) (slot cs 0 ∷ slot cs 1 ∷ slot cs 2 ∷ []) = cc in
+    let at : (s : ℕ) (d : Bool) → d ≡ differ (slice_index_or before s nowhere) (slice_index_or after s nowhere) → row s t cs ≡ cell t (slot cs s) → row s u cs ≡ cell u (slot cs s) → d ≡ narrower t u (slot cs s) =
+    λ s d told ft fu. told ∙ ap not (eq_same_row (slice_index_or before s nowhere) (slice_index_or after s nowhere) ∙ ap₂ same_row (ap (λ r. get_or r s nowhere) eb ∙ ft) (ap (λ r. get_or r s nowhere) ea ∙ fu)) in
+    let x = at 0 a first (ap (row 0 t) three.are) (ap (row 0 u) three.are) in
+    let y = at 1 b second (ap (row 1 t) three.are) (ap (row 1 u) three.are) in
+    let z = at 2 c third (ap (row 2 t) three.are) (ap (row 2 u) three.are) in
+    let all : a ∷ b ∷ c ∷ [] ≡ map (narrower t u) (slot cs 0 ∷ slot cs 1 ∷ slot cs 2 ∷ []) = cc in
     all ∙ ap (map (narrower t u)) (sym three.are)

@@ -3,7 +3,6 @@ ghost use Rattle.std.specs.Prelude.{◌≡◌, ◌+◌, ◌*◌, ◌^◌, ◌<�
 ghost use Rattle.tube.specs.Tubes.{is_tube, cell};
 ghost use Rattle.contractor.specs.Contractors.{Accepted};
 ghost use Rattle.contractor.specs.Layers.{passed_up, leaving};
-ghost use Rattle.contractor.specs.Repetitions.{same_row};
 ghost use Rattle.constraint.specs.Kinds.{constraint_value};
 ghost use Rattle.net.specs.Links.{Three};
 ghost use Rattle.net.specs.Nets.{greatest_need, net_digit, positions, spun, most_records};
@@ -36,12 +35,6 @@ pub(crate) fn greatest_need(records: &[Constraint]) -> usize
         need = constraint.need().max(need);
     }
     need
-}
-
-fn is_same(first: Row, second: Row) -> bool
-    ensures { result ≡ same_row first second }
-{
-    first.low == second.low && first.high == second.high
 }
 
 // The fault as a net passes it up.
@@ -78,9 +71,9 @@ fn use_on(constraint: Constraint, tube: &mut [Row]) -> Use
         verdict: answer.verdict,
         cells,
         narrower: [
-            !is_same(before[0], after[0]),
-            !is_same(before[1], after[1]),
-            !is_same(before[2], after[2]),
+            before[0] != after[0],
+            before[1] != after[1],
+            before[2] != after[2],
         ],
     }
 }

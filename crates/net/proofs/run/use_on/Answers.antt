@@ -25,5 +25,5 @@ returns c =
       verdict = ap (λ x. x.answer.verdict) c.narrow-answer.ensures.answer;
       left = ap (λ x. x.tube) c.narrow-answer.ensures.answer;
       cells = c.cells-cells.ensures;
-      narrower = compared t u (length t) c.cells-cells.result c.rows_at-before.result c.rows_at-after.result c.is_same.result c.is_same-2.result c.is_same-3.result three c.rows_at-before.ensures c.rows_at-after.ensures c.is_same.ensures c.is_same-2.ensures c.is_same-3.ensures ∙ ap (map (narrower t u)) c.cells-cells.ensures;
+      narrower = compared t u (length t) c.cells-cells.result c.rows_at-before.result c.rows_at-after.result c.ne.result c.ne-2.result c.ne-3.result three c.rows_at-before.ensures c.rows_at-after.ensures c.ne.ensures c.ne-2.ensures c.ne-3.ensures ∙ ap (map (narrower t u)) c.cells-cells.ensures;
     }
