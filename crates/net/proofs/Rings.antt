@@ -6,7 +6,7 @@ use Rattle.std.proofs.lemmas.Bool.{cases_eq, cases_lt, cond-true, cond-false, eq
 use Rattle.contractor.specs.declared.answer.Mark.TheVariants.{Settled, Stopped}
 use Rattle.net.specs.Nets.{waits, positions, rest_mark, most_records}
 use Rattle.net.specs.Queues.{queue_list, queue_of, Apart, Below, Marked, Queued, joined_by}
-use Rattle.net.specs.declared.waiting.Waiting.{Waiting}
+use Rattle.net.specs.declared.waiting.Waiting.TheInside.{Inside as Waiting}
 use Rattle.net.proofs.Apart.{waits_push, apart_push, room, positions_wait, positions_past, positions_apart}
 use Rattle.net.specs.QueuesLemmas.{positions_below}
 

@@ -8,8 +8,12 @@ loop-i-init c = filled_none
 pub loop-i-preserved : goal.loop-i-preserved
 loop-i-preserved c = filled_more _ _ _ (omega arith) c.loop-i.invariant
 
+pub invariant_of-result : goal.invariant_of-result
+invariant_of-result c =
+    let over : c.loop-i.i ≡ c.args.count = omega arith in
+    filled_queued _ _ _ c.requires (subst (Filled c.loop-i.ring c.loop-i.marks) over c.loop-i.invariant)
+
 pub returns : goal.returns
 returns c =
     let over : c.loop-i.i ≡ c.args.count = omega arith in
-    let filled = subst (Filled c.loop-i.ring c.loop-i.marks) over c.loop-i.invariant in
-    record { queue = filled_queue _ _ _ c.requires filled; queued = filled_queued _ _ _ c.requires filled }
+    filled_queue _ _ _ c.requires (subst (Filled c.loop-i.ring c.loop-i.marks) over c.loop-i.invariant)
