@@ -1,7 +1,7 @@
 -- The chains while they are built, from the last record to the first. Assumes nothing.
 use Rattle.std.proofs.Common.{◌≡◌, ℕ, zero, suc, ◌+◌, ◌<◌, ◌≤◌, Bool, true, false, cond, ◌||◌, eqb, List, [], ◌∷◌, map, length, get_or, take, set, replicate, sym, refl, ap, ◌∙◌, subst, ⊎_elim, le_of_suc-le-suc, not-suc-le-zero, arith}
 use Rattle.std.proofs.lemmas.List.{get_or-set_same, get_or-set_other, get_or-replicate, length-set, length-replicate, length-map, length-take-le, get_or-map, get_or-take, ext_get_or}
-use Rattle.std.proofs.lemmas.Bool.{cases_eq, cond-true, cond-false, eq-eqb, eqb-true, ne_eqb, or_cases, false≢true}
+use Rattle.std.proofs.lemmas.Bool.{cases_eq, cond-true, cond-false, eq-eqb, ne_eqb}
 use Rattle.tube.specs.Tubes.{most_cells}
 use Rattle.constraint.specs.Mentions.{cell_slots}
 use Rattle.constraint.specs.declared.constraint.Constraint.{Constraint}
@@ -111,20 +111,6 @@ module _ (css : List (List ℕ)) (i : ℕ) (heads : List ℕ) (mentions : List (
             (cases_eq j i);
       }
 
-third_of : (cs : List ℕ) (c : ℕ) → length cs ≡ 3 → among c cs ≡ true → (slot cs 0 ≡ c → ⊥) → (slot cs 1 ≡ c → ⊥) → slot cs 2 ≡ c
-third_of [] c l m p q = absurd (omega arith)
-third_of (x ∷ []) c l m p q = absurd (omega arith)
-third_of (x ∷ y ∷ []) c l m p q = absurd (omega arith)
-third_of (x ∷ y ∷ z ∷ []) c l m p q =
-    ⊎_elim
-    (λ e. absurd (p (sym (eqb-true c x e))))
-    (λ r. ⊎_elim
-    (λ e. absurd (q (sym (eqb-true c y e))))
-    (λ s. ⊎_elim (λ e. sym (eqb-true c z e)) (λ f. absurd (false≢true f)) (or_cases (eqb c z) false s))
-    (or_cases (eqb c y) (eqb c z || false) r))
-    (or_cases (eqb c x) (eqb c y || (eqb c z || false)) m)
-third_of (x ∷ y ∷ z ∷ w ∷ cs) c l m p q = absurd (omega arith)
-
 slots_three : (ks : List Constraint) (j : ℕ) → j < length (slots ks) → length (get_or (slots ks) j []) ≡ 3
 slots_three [] j l = absurd (not-suc-le-zero l)
 slots_three (k ∷ ks) zero l = ap length (three_slots k).are
@@ -164,25 +150,3 @@ module _ (ks : List Constraint) (n : ℕ) (heads : List ℕ) (mentions : List (L
     heads = all.first;
     links = all.links;
   })
-
--- what is stored for a record, read back
-module _ (css : List (List ℕ)) (ch : Chains) (known : Chained css ch) (i : ℕ) (within : i < length css) where
-  abbrev stored : ℕ → Link → Link
-  stored s d = get_or (get_or ch.mentions i no_mention) s d
-
-  stored_is : (s : ℕ) (d : Link) → s < 3 → stored s d ≡ record { cell = slot (get_or css i []) s; next = after css (slot (get_or css i []) s) (i + 1) }
-  stored_is s d l =
-      ap (λ m. get_or m s d) (known.links i (omega arith) within)
-      ∙ get_or-map (λ c. record { cell = c; next = after css c (i + 1) }) (get_or css i []) s 0 d (omega (arith, known.three i within))
-
-  -- a slot that has the cell
-  pub next_found : (c s : ℕ) (d : Link) → s < 3 → (stored s d).cell ≡ c → (stored s d).next ≡ after css c (i + 1)
-  next_found c s d l e =
-      let is = stored_is s d l in
-      ap (λ x. x.next) is ∙ ap (λ x. after css x (i + 1)) (sym (ap (λ x. x.cell) is) ∙ e)
-
-  -- a cell that the record mentions, and not in its first two slots
-  pub in_third : (c : ℕ) (d : Link) → among c (get_or css i []) ≡ true → ((stored 0 d).cell ≡ c → ⊥) → ((stored 1 d).cell ≡ c → ⊥) → (stored 2 d).cell ≡ c
-  in_third c d m no_first no_second =
-      let at : (s : ℕ) → s < 3 → (stored s d).cell ≡ slot (get_or css i []) s = λ s l. ap (λ x. x.cell) (stored_is s d l) in
-      at 2 (omega arith) ∙ third_of (get_or css i []) c (known.three i within) m (λ e. no_first (at 0 (omega arith) ∙ e)) (λ e. no_second (at 1 (omega arith) ∙ e))

@@ -3,8 +3,7 @@ use Rattle.std.proofs.Common.{◌≡◌, ℕ, zero, suc, ◌+◌, ◌-◌, ◌%�
 use Rattle.std.proofs.ByRecursion.{All-push}
 use Rattle.std.proofs.lemmas.List.{get_or-set_same, get_or-set_other, length-set}
 use Rattle.std.proofs.lemmas.Bool.{cases_eq, cases_lt, cond-true, cond-false, eq-eqb, ne_eqb, or_right}
-use Rattle.contractor.specs.declared.answer.Mark.TheVariants.{Settled, Stopped}
-use Rattle.net.specs.Nets.{waits, positions, rest_mark, most_records}
+use Rattle.net.specs.Nets.{waits, positions, most_records}
 use Rattle.net.specs.Queues.{queue_list, queue_of, Apart, Below, Marked, Queued, joined_by}
 use Rattle.net.specs.declared.waiting.Waiting.TheInside.{Inside as Waiting}
 use Rattle.net.proofs.Apart.{waits_push, apart_push, room, positions_wait, positions_past, positions_apart}
@@ -49,23 +48,6 @@ queue_start ring from zero few own = refl
 queue_start ring from (suc count) few own =
     let e : from % most_records ≡ from = omega arith in
     ap₂ ◌∷◌ (ap (λ p. get_or ring p 0) e ∙ own from (omega arith)) (queue_start ring (from + 1) count (omega arith) (λ k l. own k (omega arith)))
-
--- how a run ends here
-mark_none : (ring : List ℕ) (head count : ℕ) → count ≡ 0 → rest_mark (queue_list head count ring) ≡ Settled
-mark_none ring head count e = ap (λ n. rest_mark (queue_list head n ring)) e
-
-mark_some : (ring : List ℕ) (head count : ℕ) → (count ≡ 0 → ⊥) → rest_mark (queue_list head count ring) ≡ Stopped
-mark_some ring head zero some = absurd (some refl)
-mark_some ring head (suc count) some = refl
-
-pub none_left : (w : Waiting) → w.count ≡ 0 → rest_mark (queue_of w) ≡ Settled
-none_left w e = mark_none w.ring w.head w.count e
-
-pub some_left : (w : Waiting) → (w.count ≡ 0 → ⊥) → rest_mark (queue_of w) ≡ Stopped
-some_left w some = mark_some w.ring w.head w.count some
-
-pub none_waits : (w : Waiting) → w.count ≡ 0 → queue_of w ≡ []
-none_waits w e = ap (λ n. queue_list w.head n w.ring) e
 
 -- the first is taken off
 abbrev pub without_first : Waiting → Waiting
