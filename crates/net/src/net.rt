@@ -1,7 +1,8 @@
 // A net: its records, and how many rounds it may take.
-ghost use Rattle.std.specs.Prelude.{◌≡◌, ◌≤◌, length};
+ghost use Rattle.std.specs.Prelude.{◌≤◌, length};
 ghost use Rattle.net.specs.Nets.{most_records};
 
+use arrayvec::ArrayVec;
 use constraint::Constraint;
 use contractor::Rounds;
 
@@ -11,12 +12,9 @@ mod contracting;
 // The most records that a net holds.
 pub const MAX_RECORDS: usize = 512;
 
-// The records are the first so many of the table; what stands after them is never read.
 #[derive(Drop)]
 pub struct Net {
-    table: [Constraint; MAX_RECORDS],
-    count: usize,
+    records: ArrayVec<Constraint, MAX_RECORDS>,
     rounds: Rounds,
-    ghost sized: { length table ≡ most_records },
-    ghost held: { count ≤ most_records },
+    ghost held: { length records.items ≤ most_records },
 }

@@ -1,23 +1,12 @@
 // Making a net, and filling it.
-ghost use Rattle.std.specs.Prelude.{◌≡◌, [], length, pos};
+ghost use Rattle.std.specs.Prelude.{◌≡◌, [], length};
 ghost use Rattle.contractor.specs.RoundCounts.{count_of};
-ghost use Rattle.constraint.specs.Constraints.{bound};
-ghost use Rattle.constraint.specs.Kinds.{constraint_value};
 ghost use Rattle.net.specs.Records.{records, rounds_of, push_answer, pushed};
 
-use super::{MAX_RECORDS, Net};
-use constraint::{Bound, Constraint};
+use super::Net;
+use arrayvec::ArrayVec;
+use constraint::Constraint;
 use contractor::{BuildRefusal, Rounds};
-
-// What stands in a table's free places.
-fn filler() -> Constraint
-    ensures { constraint_value result ≡ bound 0 0 (pos 0) (pos 0) }
-{
-    match Bound::new(0, 0, 0, 0) {
-        Ok(bound) => Constraint::Bound(bound),
-        Err(_) => unreachable(),
-    }
-}
 
 impl Net {
     // A net with no records.
@@ -26,8 +15,7 @@ impl Net {
         ensures rounds { rounds_of result ≡ count_of rounds }
     {
         Net {
-            table: [filler(); MAX_RECORDS],
-            count: 0,
+            records: ArrayVec::new(),
             rounds,
         }
     }
@@ -36,14 +24,14 @@ impl Net {
     pub fn len(&self) -> usize
         ensures { result ≡ length (records self.now) }
     {
-        self.count
+        self.records.len()
     }
 
     // Its records, in order.
     pub fn records(&self) -> &[Constraint]
         ensures { result.now ≡ records self.now }
     {
-        &self.table[0..self.count]
+        self.records.as_slice()
     }
 
     pub fn rounds(&self) -> Rounds
@@ -58,11 +46,10 @@ impl Net {
         ensures records { records self.new ≡ pushed (records self.old) constraint }
         ensures rounds { rounds_of self.new ≡ rounds_of self.old }
     {
-        if self.count == MAX_RECORDS {
+        if self.records.is_full() {
             return Err(BuildRefusal::NetFull);
         }
-        self.table[self.count] = constraint;
-        self.count += 1;
+        self.records.push(constraint);
         Ok(())
     }
 
@@ -71,6 +58,6 @@ impl Net {
         ensures records { records self.new ≡ [] }
         ensures rounds { rounds_of self.new ≡ rounds_of self.old }
     {
-        self.count = 0;
+        self.records.clear();
     }
 }
