@@ -1,7 +1,5 @@
 // A constraint of any kind, itself a contractor.
-ghost use Rattle.std.specs.Prelude.{◌≡◌, pos, neg_ℤ};
-ghost use Rattle.tube.specs.Spans.{reach};
-ghost use Rattle.constraint.specs.Constraints.{bound};
+ghost use Rattle.std.specs.Prelude.{◌≡◌};
 ghost use Rattle.constraint.specs.Kinds.{constraint_value};
 ghost use Rattle.constraint.specs.Mentions.{cell_slots};
 ghost use Rattle.constraint.specs.Keeping.{constraint_keeps};
@@ -10,7 +8,7 @@ use crate::bound::Bound;
 use crate::range::Range;
 use crate::step::Step;
 use contractor::{Answer, Contractor};
-use tube::{Interval, Row};
+use tube::Row;
 
 #[derive(Clone, Copy, Debug, PartialEq)]
 pub enum Constraint {
@@ -29,15 +27,6 @@ impl Constraint {
             Constraint::Step(k) => k.cells(),
             Constraint::Range(k) => k.cells(),
         }
-    }
-}
-
-// The bound that every trajectory obeys.
-impl Default for Constraint {
-    ghost is_default = { λ k. constraint_value k ≡ bound 0 0 (neg_ℤ (pos reach)) (pos reach) };
-
-    fn default() -> Self {
-        Constraint::Bound(Bound::new(0, 0, -Interval::REACH, Interval::REACH).unwrap())
     }
 }
 

@@ -1,5 +1,5 @@
 -- The records of a net, which are constraints. Assumes nothing.
-use Rattle.std.specs.Prelude.{ℕ, cond, List, [], ◌∷◌, ◌++◌, map, length, Ok, Err, Result, nat_lt}
+use Rattle.std.specs.Prelude.{ℕ, cond, List, [], ◌∷◌, ◌++◌, map, length, take, Ok, Err, Result, nat_lt}
 use Rattle.contractor.specs.Contractors.{Value}
 use Rattle.contractor.specs.RoundCounts.{count_of}
 use Rattle.contractor.specs.declared.build.BuildRefusal.{BuildRefusal}
@@ -19,7 +19,7 @@ parts = map part
 
 -- the records that a net holds, in order
 abbrev pub records : Net → List Constraint
-records n = n.records.items
+records n = take n.count n.table
 
 -- how many rounds it may take
 abbrev pub rounds_of : Net → ℕ

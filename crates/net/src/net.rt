@@ -1,8 +1,7 @@
 // A net: its records, and how many rounds it may take.
-ghost use Rattle.std.specs.Prelude.{◌≤◌, length};
+ghost use Rattle.std.specs.Prelude.{◌≡◌, ◌≤◌, length};
 ghost use Rattle.net.specs.Nets.{most_records};
 
-use arrayvec::ArrayVec;
 use constraint::Constraint;
 use contractor::Rounds;
 
@@ -12,9 +11,13 @@ mod contracting;
 // The most records that a net holds.
 pub const MAX_RECORDS: usize = 512;
 
+// The records are the first so many of the table; what stands after them is never read.
+// Not an ArrayVec: that was tried, and making a net then copies the table twice more, 2.2 microseconds in place of 0.25.
 #[derive(Drop)]
 pub struct Net {
-    records: ArrayVec<Constraint, MAX_RECORDS>,
+    table: [Constraint; MAX_RECORDS],
+    count: usize,
     rounds: Rounds,
-    ghost held: { length records.items ≤ most_records },
+    ghost sized: { length table ≡ most_records },
+    ghost held: { count ≤ most_records },
 }

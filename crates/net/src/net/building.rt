@@ -1,12 +1,20 @@
 // Making a net, and filling it.
-ghost use Rattle.std.specs.Prelude.{◌≡◌, [], length};
+ghost use Rattle.std.specs.Prelude.{◌≡◌, [], length, pos};
 ghost use Rattle.contractor.specs.RoundCounts.{count_of};
+ghost use Rattle.constraint.specs.Constraints.{bound};
+ghost use Rattle.constraint.specs.Kinds.{constraint_value};
 ghost use Rattle.net.specs.Records.{records, rounds_of, push_answer, pushed};
 
-use super::Net;
-use arrayvec::ArrayVec;
-use constraint::Constraint;
+use super::{MAX_RECORDS, Net};
+use constraint::{Bound, Constraint};
 use contractor::{BuildRefusal, Rounds};
+
+// What stands in a table's free places.
+fn filler() -> Constraint
+    ensures { constraint_value result ≡ bound 0 0 (pos 0) (pos 0) }
+{
+    Constraint::Bound(Bound::new(0, 0, 0, 0).unwrap())
+}
 
 impl Net {
     // A net with no records.
@@ -15,7 +23,8 @@ impl Net {
         ensures rounds { rounds_of result ≡ count_of rounds }
     {
         Net {
-            records: ArrayVec::new(),
+            table: [filler(); MAX_RECORDS],
+            count: 0,
             rounds,
         }
     }
@@ -24,14 +33,14 @@ impl Net {
     pub fn len(&self) -> usize
         ensures { result ≡ length (records self.now) }
     {
-        self.records.len()
+        self.count
     }
 
     // Its records, in order.
     pub fn records(&self) -> &[Constraint]
         ensures { result.now ≡ records self.now }
     {
-        self.records.as_slice()
+        &self.table[0..self.count]
     }
 
     pub fn rounds(&self) -> Rounds
@@ -46,10 +55,11 @@ impl Net {
         ensures records { records self.new ≡ pushed (records self.old) constraint }
         ensures rounds { rounds_of self.new ≡ rounds_of self.old }
     {
-        if self.records.is_full() {
+        if self.count == MAX_RECORDS {
             return Err(BuildRefusal::NetFull);
         }
-        self.records.push(constraint);
+        self.table[self.count] = constraint;
+        self.count += 1;
         Ok(())
     }
 
@@ -58,6 +68,6 @@ impl Net {
         ensures records { records self.new ≡ [] }
         ensures rounds { rounds_of self.new ≡ rounds_of self.old }
     {
-        self.records.clear();
+        self.count = 0;
     }
 }

@@ -21,7 +21,7 @@ impl Contractor for Net {
     }
 
     fn ceiling(&self) -> u64 {
-        self.len() as u64 * u64::from(self.rounds.get())
+        self.count as u64 * u64::from(self.rounds.get())
     }
 
     fn narrow(&mut self, tube: &mut [Row]) -> Answer {
