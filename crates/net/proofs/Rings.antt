@@ -1,8 +1,8 @@
 -- A queue that stands in a ring: taking the first off, and joining the end. Assumes nothing.
-use Rattle.std.proofs.Common.{◌≡◌, ℕ, zero, suc, ◌+◌, ◌-◌, ◌%◌, ◌<◌, ◌≤◌, Bool, true, false, ◌||◌, eqb, ◌≢◌, List, [], ◌∷◌, ◌++◌, length, get_or, set, replicate, sym, refl, ap, ◌∙◌, subst, ap₂, ⊎_elim, arith, below_more}
+use Rattle.std.proofs.Common.{◌≡◌, ℕ, zero, suc, ◌+◌, ◌-◌, ◌%◌, ◌<◌, ◌≤◌, Bool, true, false, ◌||◌, eqb, ◌≢◌, List, [], ◌∷◌, ◌++◌, length, get_or, set, replicate, sym, refl, ap, ◌∙◌, subst, ap₂, ⊎_elim, arith}
 use Rattle.std.proofs.ByRecursion.{All-push}
-use Rattle.std.proofs.lemmas.List.{get_or-set_same, get_or-set_other, length-set}
-use Rattle.std.proofs.lemmas.Bool.{cases_eq, cases_lt, cond-true, cond-false, eq-eqb, ne_eqb, or_right}
+use Rattle.std.proofs.lemmas.List.{get_or-set_same, get_or-set_other}
+use Rattle.std.proofs.lemmas.Bool.{cases_eq, cases_lt, cond-false, eq-eqb, ne_eqb, or_right}
 use Rattle.net.specs.Nets.{waits, positions, most_records}
 use Rattle.net.specs.Queues.{queue_list, queue_of, Apart, Below, Marked, Queued, joined_by}
 use Rattle.net.specs.declared.waiting.Waiting.TheInside.{Inside as Waiting}
@@ -86,9 +86,6 @@ abbrev pub with_last : Waiting → ℕ → Waiting
 with_last w i = record { ring = set w.ring ((w.head + w.count) % most_records) i; marks = set w.marks i true; head = w.head; count = w.count + 1 }
 
 module _ (w : Waiting) (known : Queued w) (i : ℕ) (placed : i < most_records) where
-  pub waits_already : get_or w.marks i false ≡ true → queue_of w ≡ joined_by i (queue_of w)
-  waits_already m = sym (cond-true (waits i (queue_of w)) _ _ (sym (known.marked i placed) ∙ m))
-
   module _ (m : get_or w.marks i false ≡ false) where
     waits_not : waits i (queue_of w) ≡ false
     waits_not = sym (known.marked i placed) ∙ m
@@ -132,15 +129,6 @@ pub record Filled (ring : List ℕ) (marks : List Bool) (n : ℕ) : Type 0 where
 
 pub filled_none : Filled (replicate most_records 0) (replicate most_records false) 0
 filled_none = record { places = refl; sized = refl; own = λ k l. absurd (omega arith); on = λ k l. absurd (omega arith); off = λ k l. get_or_all_false most_records k }
-
-pub filled_more : (ring : List ℕ) (marks : List Bool) (n : ℕ) → n < most_records → Filled ring marks n → Filled (set ring n n) (set marks n true) (n + 1)
-filled_more ring marks n l f = record {
-  places = length-set ring n n ∙ f.places;
-  sized = length-set marks n true ∙ f.sized;
-  own = below_more _ _ (λ k l. get_or-set_other ring n k n 0 (λ e. omega arith) ∙ f.own k l) (get_or-set_same ring n n 0 (omega arith));
-  on = below_more _ _ (λ k l. get_or-set_other marks n k true false (λ e. omega arith) ∙ f.on k l) (get_or-set_same marks n true false (omega arith));
-  off = λ k l. get_or-set_other marks n k true false (λ e. omega arith) ∙ f.off k (omega arith);
-}
 
 module _ (ring : List ℕ) (marks : List Bool) (n : ℕ) (few : n ≤ most_records) (filled : Filled ring marks n) where
   pub filled_queue : queue_list 0 n ring ≡ positions 0 n

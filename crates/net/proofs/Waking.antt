@@ -1,6 +1,6 @@
 -- The loop that lets records join, with a cursor for each of three cells. Assumes nothing.
-use Rattle.std.proofs.Common.{◌≡◌, ℕ, ◌+◌, ◌<◌, ◌≤◌, min, true, List, [], ◌∷◌, ◌++◌, length, get_or, sym, refl, ap, ◌∙◌, subst, arith}
-use Rattle.std.specs.Prelude.{None, Option}
+use Rattle.std.proofs.Common.{◌≡◌, ℕ, ◌+◌, ◌<◌, ◌≤◌, min, true, List, [], ◌∷◌, ◌++◌, length, get_or, sym, ap, ◌∙◌, subst, arith}
+use Rattle.std.specs.Prelude.{Option}
 use Rattle.net.specs.Nets.{among, joining}
 use Rattle.net.specs.Chains.{least_after, cursor, counted}
 use Rattle.net.specs.Links.{slots_of, Chained, cell_of, stands, passed}
@@ -110,11 +110,3 @@ module _ (css : List (List ℕ)) (a b c : Option ℕ) where
 -- the number of records, where the chains end
 pub end_is : (css : List (List ℕ)) (ch : Chains) → slots_of ch ≡ css → Chained (slots_of ch) ch → ch.end ≡ length css
 end_is css ch e known = known.count ∙ ap length e
-
--- an array of three slots
-pub three_slots : (os : List (Option ℕ)) → length os ≡ 3 → get_or os 0 None ∷ get_or os 1 None ∷ get_or os 2 None ∷ [] ≡ os
-three_slots [] l = absurd (omega arith)
-three_slots (a ∷ []) l = absurd (omega arith)
-three_slots (a ∷ b ∷ []) l = absurd (omega arith)
-three_slots (a ∷ b ∷ c ∷ []) l = refl
-three_slots (a ∷ b ∷ c ∷ d ∷ os) l = absurd (omega arith)

@@ -1,7 +1,5 @@
-use Rattle.std.proofs.Common.{◌<◌, ◌++◌, length, ap, ◌∙◌, arith}
-use Rattle.net.specs.Nets.{among, joining}
-use Rattle.net.specs.Chains.{counted}
-use Rattle.net.proofs.Waking.{mentioned, waking_start, waking_more, waking_on, waking_end, end_is, three_slots}
+use Rattle.std.proofs.Common.{◌<◌, length, arith}
+use Rattle.net.proofs.Waking.{mentioned, waking_start, waking_more, waking_on, end_is}
 use Rattle.net.proofs.chains.Chains.wake.Goals as goal
 
 pub loop-next-init : goal.loop-next-init
@@ -26,9 +24,3 @@ pub loop-next-preserved : goal.loop-next-preserved
 loop-next-preserved c =
     let within : c.loop-next.next < length c.args.self.now = omega (arith, end_is _ _ c.self.view_is c.self.invariant) in
     waking_more c.args.self.now _ _ _ _ _ _ _ _ _ c.loop-next.invariant _ _ _ _ _ within c.join.ensures c.pass-first.ensures c.pass-second.ensures c.pass-third.ensures (omega arith)
-
-pub returns : goal.returns
-returns c =
-    let q = c.args.waiting.now in
-    waking_end c.args.self.now _ _ _ _ _ _ _ _ _ c.loop-next.invariant (omega (arith, end_is _ _ c.self.view_is c.self.invariant))
-    ∙ ap (λ os. q ++ joining c.args.self.now 0 q (λ d. among d (counted os))) (three_slots c.args.narrower (omega arith))

@@ -1,12 +1,9 @@
 use Rattle.std.proofs.Common.{◌≡◌, subst, arith}
-use Rattle.net.proofs.Rings.{Filled, filled_none, filled_more, filled_queue, filled_queued}
+use Rattle.net.proofs.Rings.{Filled, filled_none, filled_queue, filled_queued}
 use Rattle.net.proofs.waiting.Waiting.all.Goals as goal
 
 pub loop-i-init : goal.loop-i-init
 loop-i-init c = filled_none
-
-pub loop-i-preserved : goal.loop-i-preserved
-loop-i-preserved c = filled_more _ _ _ (omega arith) c.loop-i.invariant
 
 pub invariant_of-result : goal.invariant_of-result
 invariant_of-result c =
