@@ -1,14 +1,14 @@
 -- The loop that lets records join, with a cursor for each of three cells. Assumes nothing.
-use Rattle.std.proofs.Common.{◌≡◌, ℕ, ◌+◌, ◌<◌, ◌≤◌, min, true, List, [], ◌∷◌, ◌++◌, length, get_or, sym, ap, ◌∙◌, subst, arith}
+use Rattle.std.proofs.Common.{◌≡◌, ℕ, ◌+◌, ◌<◌, ◌≤◌, min, true, List, [], ◌∷◌, length, get_or, sym, ap, ◌∙◌, subst, arith}
 use Rattle.std.specs.Prelude.{Option}
-use Rattle.net.specs.Nets.{among, joining}
+use Rattle.net.specs.Nets.{among}
 use Rattle.net.specs.Chains.{least_after, cursor, counted}
 use Rattle.net.specs.Links.{slots_of, Chained, cell_of, stands, passed}
 use Rattle.net.specs.Queues.{joined_by}
 use Rattle.net.specs.declared.chains.Chains.TheInside.{Inside as Chains}
 use Rattle.net.specs.declared.chains.Cursor.{Cursor}
 use Rattle.net.specs.Cursors.{cursor_length, cursor_finds, cursor_same, cursor_next, least_counted, least_from}
-use Rattle.net.proofs.Joined.{Joined, joined_start, joined_turn, joined_skip, joined_end}
+use Rattle.net.proofs.Joined.{Joined, joined_start, joined_turn, joined_skip}
 
 -- one cursor
 module _ (css : List (List ℕ)) (o : Option ℕ) where
@@ -103,9 +103,6 @@ module _ (css : List (List ℕ)) (a b c : Option ℕ) where
           let lb = ap (λ x. x.at) moved_second in
           let lc = ap (λ x. x.at) moved_third in
           omega (arith, least_stands (next + 1), least_from css those (next + 1) (omega arith))
-
-    pub waking_end : length css ≤ next → s ≡ q ++ joining css 0 q (λ d. among d those)
-    waking_end past = joined_end css those q next s sofar.joined (omega (arith, least_now))
 
 -- the number of records, where the chains end
 pub end_is : (css : List (List ℕ)) (ch : Chains) → slots_of ch ≡ css → Chained (slots_of ch) ch → ch.end ≡ length css
