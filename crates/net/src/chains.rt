@@ -58,6 +58,7 @@ impl Chains {
         let mut heads = [end; MAX_CELLS];
         let mut mentions = [[Link { cell: 0, next: 0 }; 3]; MAX_RECORDS];
         // From the last record to the first, so that the heads are always those of the records seen.
+        // By position: over `records.iter().enumerate().rev()` the proof was tried, and did not close.
         for i in (0..count).rev() {
             let [a, b, c] = records[i].cells();
             mentions[i] = [

@@ -38,9 +38,9 @@ impl Waiting {
     {
         let mut ring = [0u16; MAX_RECORDS];
         let mut marks = [false; MAX_RECORDS];
-        for i in 0..count {
-            ring[i] = i as u16;
-            marks[i] = true;
+        marks[..count].fill(true);
+        for (i, place) in ring[..count].iter_mut().enumerate() {
+            *place = i as u16;
         }
         Waiting {
             ring,
