@@ -1,15 +1,15 @@
 -- The chains while they are built, from the last record to the first. Assumes nothing.
 use Rattle.std.proofs.Common.{◌≡◌, ℕ, zero, suc, ◌+◌, ◌<◌, ◌≤◌, Bool, true, false, cond, ◌||◌, eqb, List, [], ◌∷◌, map, length, get_or, take, set, replicate, sym, refl, ap, ◌∙◌, subst, ⊎_elim, le_of_suc-le-suc, not-suc-le-zero, arith}
 use Rattle.std.proofs.lemmas.List.{get_or-set_same, get_or-set_other, get_or-replicate, length-set, length-replicate, length-map, length-take-le, get_or-map, get_or-take, ext_get_or}
-use Rattle.std.proofs.lemmas.Bool.{cases_eq, cond-true, cond-false, eq-eqb, eqb-true, ne_eqb, or_cases, false≢true}
+use Rattle.std.proofs.lemmas.Bool.{cases_eq, cond-true, cond-false, eq-eqb, ne_eqb}
 use Rattle.tube.specs.Tubes.{most_cells}
 use Rattle.constraint.specs.Mentions.{cell_slots}
 use Rattle.constraint.specs.declared.constraint.Constraint.{Constraint}
 use Rattle.net.specs.Nets.{among, most_records}
 use Rattle.net.specs.Chains.{after}
 use Rattle.net.specs.Links.{slots, slots_of, slot, Three, no_mention, Heads, linked, Links, Chained}
-use Rattle.net.specs.declared.chains.Mention.{Mention}
-use Rattle.net.specs.declared.chains.Chains.{Chains}
+use Rattle.net.specs.declared.chains.Link.{Link}
+use Rattle.net.specs.declared.chains.Chains.TheInside.{Inside as Chains}
 use Rattle.net.specs.Slots.{three_slots}
 
 -- the first record that mentions a cell, past the end and one position before
@@ -63,13 +63,13 @@ module _ (heads : List ℕ) (a b c i : ℕ) where
       ∙ ap (cond (eqb d c) i) (get_or_set (set heads a i) b i d (omega arith) ∙ ap (cond (eqb d b) i) (get_or_set heads a i d la))
       ∙ any_of_three (eqb d a) (eqb d b) (eqb d c) i (get_or heads d 0)
 
-pub record Linking (css : List (List ℕ)) (i : ℕ) (heads : List ℕ) (mentions : List Mention) : Type 0 where
+pub record Linking (css : List (List ℕ)) (i : ℕ) (heads : List ℕ) (mentions : List (List Link)) : Type 0 where
   pub cells : length heads ≡ most_cells
   pub records : length mentions ≡ most_records
   pub first : Heads css i heads
   pub links : Links css i mentions
 
-pub linking_none : (css : List (List ℕ)) (n : ℕ) (m : Mention) → n ≡ length css → Linking css n (replicate most_cells n) (replicate most_records m)
+pub linking_none : (css : List (List ℕ)) (n : ℕ) (m : List Link) → n ≡ length css → Linking css n (replicate most_cells n) (replicate most_records m)
 linking_none css n m e = record {
   cells = length-replicate most_cells n;
   records = length-replicate most_records m;
@@ -78,17 +78,17 @@ linking_none css n m e = record {
 }
 
 -- what is stored for a record with these cells
-abbrev pub mention : List ℕ → List ℕ → Mention
-mention heads cs = record { cells = cs; next = get_or heads (slot cs 0) 0 ∷ get_or heads (slot cs 1) 0 ∷ get_or heads (slot cs 2) 0 ∷ [] }
+abbrev pub mention : List ℕ → List ℕ → List Link
+mention heads cs = map (λ c. record { cell = c; next = get_or heads c 0 }) (slot cs 0 ∷ slot cs 1 ∷ slot cs 2 ∷ [])
 
-module _ (css : List (List ℕ)) (i : ℕ) (heads : List ℕ) (mentions : List Mention) (sofar : Linking css (i + 1) heads mentions) (within : i < length css) (few : length css ≤ most_records) (cs : List ℕ) (three : Three most_cells cs) (here : get_or css i [] ≡ cs) where
+module _ (css : List (List ℕ)) (i : ℕ) (heads : List ℕ) (mentions : List (List Link)) (sofar : Linking css (i + 1) heads mentions) (within : i < length css) (few : length css ≤ most_records) (cs : List ℕ) (three : Three most_cells cs) (here : get_or css i [] ≡ cs) where
   mention_linked : mention heads cs ≡ linked css i (get_or css i [])
   mention_linked =
       let a = sofar.first (slot cs 0) three.first in
       let b = sofar.first (slot cs 1) three.second in
       let c = sofar.first (slot cs 2) three.third in
-      let next : get_or heads (slot cs 0) 0 ∷ get_or heads (slot cs 1) 0 ∷ get_or heads (slot cs 2) 0 ∷ [] ≡ map (λ d. after css d (i + 1)) (slot cs 0 ∷ slot cs 1 ∷ slot cs 2 ∷ []) = cc in
-      ap (λ n. record { cells = cs; next = n }) (next ∙ ap (map (λ d. after css d (i + 1))) (sym three.are)) ∙ ap (linked css i) (sym here)
+      let all : mention heads cs ≡ linked css i (slot cs 0 ∷ slot cs 1 ∷ slot cs 2 ∷ []) = cc in
+      all ∙ ap (linked css i) (sym three.are ∙ sym here)
 
   pub linking_more : Linking css i (three_set heads (slot cs 0) (slot cs 1) (slot cs 2) i) (set mentions i (mention heads cs))
   linking_more =
@@ -111,29 +111,19 @@ module _ (css : List (List ℕ)) (i : ℕ) (heads : List ℕ) (mentions : List M
             (cases_eq j i);
       }
 
-third_of : (cs : List ℕ) (c : ℕ) → length cs ≡ 3 → among c cs ≡ true → (slot cs 0 ≡ c → ⊥) → (slot cs 1 ≡ c → ⊥) → slot cs 2 ≡ c
-third_of [] c l m p q = absurd (omega arith)
-third_of (x ∷ []) c l m p q = absurd (omega arith)
-third_of (x ∷ y ∷ []) c l m p q = absurd (omega arith)
-third_of (x ∷ y ∷ z ∷ []) c l m p q =
-    ⊎_elim
-    (λ e. absurd (p (sym (eqb-true c x e))))
-    (λ r. ⊎_elim
-    (λ e. absurd (q (sym (eqb-true c y e))))
-    (λ s. ⊎_elim (λ e. sym (eqb-true c z e)) (λ f. absurd (false≢true f)) (or_cases (eqb c z) false s))
-    (or_cases (eqb c y) (eqb c z || false) r))
-    (or_cases (eqb c x) (eqb c y || (eqb c z || false)) m)
-third_of (x ∷ y ∷ z ∷ w ∷ cs) c l m p q = absurd (omega arith)
-
 slots_three : (ks : List Constraint) (j : ℕ) → j < length (slots ks) → length (get_or (slots ks) j []) ≡ 3
 slots_three [] j l = absurd (not-suc-le-zero l)
 slots_three (k ∷ ks) zero l = ap length (three_slots k).are
 slots_three (k ∷ ks) (suc j) l = slots_three ks j (le_of_suc-le-suc l)
 
+map_cells : (css : List (List ℕ)) (j : ℕ) (cs : List ℕ) → map (λ l. l.cell) (linked css j cs) ≡ cs
+map_cells css j [] = refl
+map_cells css j (c ∷ cs) = ap (λ ds. c ∷ ds) (map_cells css j cs)
+
 -- all records are linked
-module _ (ks : List Constraint) (n : ℕ) (heads : List ℕ) (mentions : List Mention) (e : n ≡ length ks) (few : n ≤ most_records) (all : Linking (slots ks) 0 heads mentions) where
+module _ (ks : List Constraint) (n : ℕ) (heads : List ℕ) (mentions : List (List Link)) (e : n ≡ length ks) (few : n ≤ most_records) (all : Linking (slots ks) 0 heads mentions) where
   abbrev chains : Chains
-  chains = record { count = n; heads = heads; mentions = mentions }
+  chains = record { end = n; heads = heads; mentions = mentions }
 
   slot_count : length (slots ks) ≡ n
   slot_count = length-map ks cell_slots ∙ sym e
@@ -143,13 +133,14 @@ module _ (ks : List Constraint) (n : ℕ) (heads : List ℕ) (mentions : List Me
 
   stored_at : (j : ℕ) → j < length (slots_of chains) → get_or (slots_of chains) j [] ≡ get_or (slots ks) j []
   stored_at j l =
-      let m = length-map (take n mentions) (λ m. m.cells) in
+      let m = length-map (take n mentions) (map (λ l. l.cell)) in
       let below : j < n = omega (arith, m, stored_count) in
-      get_or-map (λ m. m.cells) (take n mentions) j no_mention [] (omega (arith, stored_count))
-      ∙ ap (λ m. m.cells) (get_or-take n mentions j no_mention below ∙ all.links j (omega arith) (omega (arith, slot_count)))
+      get_or-map (map (λ l. l.cell)) (take n mentions) j no_mention [] (omega (arith, stored_count))
+      ∙ ap (map (λ l. l.cell)) (get_or-take n mentions j no_mention below ∙ all.links j (omega arith) (omega (arith, slot_count)))
+      ∙ map_cells (slots ks) j (get_or (slots ks) j [])
 
   pub stored_slots : slots_of chains ≡ slots ks
-  stored_slots = ext_get_or [] (slots_of chains) (slots ks) (length-map (take n mentions) (λ m. m.cells) ∙ stored_count ∙ sym slot_count) stored_at
+  stored_slots = ext_get_or [] (slots_of chains) (slots ks) (length-map (take n mentions) (map (λ l. l.cell)) ∙ stored_count ∙ sym slot_count) stored_at
 
   pub linking_all : Chained (slots_of chains) chains
   linking_all = subst (λ css. Chained css chains) (sym stored_slots) (record {
@@ -159,29 +150,3 @@ module _ (ks : List Constraint) (n : ℕ) (heads : List ℕ) (mentions : List Me
     heads = all.first;
     links = all.links;
   })
-
--- what is stored for a record, read back
-module _ (css : List (List ℕ)) (ch : Chains) (known : Chained css ch) (i : ℕ) (within : i < length css) where
-  abbrev stored : Mention
-  stored = get_or ch.mentions i no_mention
-
-  stored_is : stored ≡ linked css i (get_or css i [])
-  stored_is = known.links i (omega arith) within
-
-  next_at : (s : ℕ) → s < 3 → get_or stored.next s 0 ≡ after css (get_or stored.cells s 0) (i + 1)
-  next_at s l =
-      let f : ℕ → ℕ = λ c. after css c (i + 1) in
-      ap (λ m. get_or m.next s 0) stored_is
-      ∙ get_or-map f (get_or css i []) s 0 0 (omega (arith, known.three i within))
-      ∙ ap (λ m. f (get_or m.cells s 0)) (sym stored_is)
-
-  -- a slot that has the cell
-  pub next_found : (c s : ℕ) → s < 3 → get_or stored.cells s 0 ≡ c → get_or stored.next s 0 ≡ after css c (i + 1)
-  next_found c s l e = next_at s l ∙ ap (λ d. after css d (i + 1)) e
-
-  -- a cell that the record mentions, and not in its first two slots
-  pub in_third : (c : ℕ) → among c (get_or css i []) ≡ true → (get_or stored.cells 0 0 ≡ c → ⊥) → (get_or stored.cells 1 0 ≡ c → ⊥) → get_or stored.cells 2 0 ≡ c
-  in_third c m no_first no_second =
-      let cs = get_or css i [] in
-      let same : stored.cells ≡ cs = ap (λ x. x.cells) stored_is in
-      ap (λ x. get_or x 2 0) same ∙ third_of cs c (known.three i within) m (λ e. no_first (ap (λ x. get_or x 0 0) same ∙ e)) (λ e. no_second (ap (λ x. get_or x 1 0) same ∙ e))

@@ -1,12 +1,12 @@
 -- A queue that stands in a ring: taking the first off, and joining the end. Assumes nothing.
-use Rattle.std.proofs.Common.{◌≡◌, ℕ, zero, suc, ◌+◌, ◌-◌, ◌%◌, ◌<◌, ◌≤◌, Bool, true, false, ◌||◌, eqb, ◌≢◌, List, [], ◌∷◌, ◌++◌, length, get_or, set, replicate, sym, refl, ap, ◌∙◌, subst, ap₂, ⊎_elim, arith, below_more}
+use Rattle.std.proofs.Common.{◌≡◌, ℕ, zero, suc, ◌+◌, ◌-◌, ◌%◌, ◌<◌, ◌≤◌, Bool, true, false, ◌||◌, eqb, ◌≢◌, List, [], ◌∷◌, ◌++◌, length, get_or, set, replicate, sym, refl, ap, ◌∙◌, subst, ap₂, ⊎_elim, arith}
 use Rattle.std.proofs.ByRecursion.{All-push}
-use Rattle.std.proofs.lemmas.List.{get_or-set_same, get_or-set_other, length-set}
-use Rattle.std.proofs.lemmas.Bool.{cases_eq, cases_lt, cond-true, cond-false, eq-eqb, ne_eqb, or_right}
-use Rattle.contractor.specs.declared.answer.Mark.TheVariants.{Settled, Stopped}
-use Rattle.net.specs.Nets.{waits, positions, rest_mark, most_records}
+use Rattle.std.proofs.Common.{below_more, length-append, length-drop, drop, take, length-take-le}
+use Rattle.std.proofs.lemmas.List.{get_or_append_left, get_or-append_right, get_or-drop, get_or-replicate, length-replicate, get_or-set_same, get_or-set_other}
+use Rattle.std.proofs.lemmas.Bool.{cases_eq, cases_lt, cond-false, eq-eqb, ne_eqb, or_right}
+use Rattle.net.specs.Nets.{waits, positions, most_records}
 use Rattle.net.specs.Queues.{queue_list, queue_of, Apart, Below, Marked, Queued, joined_by}
-use Rattle.net.specs.declared.waiting.Waiting.{Waiting}
+use Rattle.net.specs.declared.waiting.Waiting.TheInside.{Inside as Waiting}
 use Rattle.net.proofs.Apart.{waits_push, apart_push, room, positions_wait, positions_past, positions_apart}
 use Rattle.net.specs.QueuesLemmas.{positions_below}
 
@@ -50,23 +50,6 @@ queue_start ring from (suc count) few own =
     let e : from % most_records ≡ from = omega arith in
     ap₂ ◌∷◌ (ap (λ p. get_or ring p 0) e ∙ own from (omega arith)) (queue_start ring (from + 1) count (omega arith) (λ k l. own k (omega arith)))
 
--- how a run ends here
-mark_none : (ring : List ℕ) (head count : ℕ) → count ≡ 0 → rest_mark (queue_list head count ring) ≡ Settled
-mark_none ring head count e = ap (λ n. rest_mark (queue_list head n ring)) e
-
-mark_some : (ring : List ℕ) (head count : ℕ) → (count ≡ 0 → ⊥) → rest_mark (queue_list head count ring) ≡ Stopped
-mark_some ring head zero some = absurd (some refl)
-mark_some ring head (suc count) some = refl
-
-pub none_left : (w : Waiting) → w.count ≡ 0 → rest_mark (queue_of w) ≡ Settled
-none_left w e = mark_none w.ring w.head w.count e
-
-pub some_left : (w : Waiting) → (w.count ≡ 0 → ⊥) → rest_mark (queue_of w) ≡ Stopped
-some_left w some = mark_some w.ring w.head w.count some
-
-pub none_waits : (w : Waiting) → w.count ≡ 0 → queue_of w ≡ []
-none_waits w e = ap (λ n. queue_list w.head n w.ring) e
-
 -- the first is taken off
 abbrev pub without_first : Waiting → Waiting
 without_first w = record { ring = w.ring; marks = set w.marks (get_or w.ring w.head 0) false; head = (w.head + 1) % most_records; count = w.count - 1 }
@@ -104,9 +87,6 @@ abbrev pub with_last : Waiting → ℕ → Waiting
 with_last w i = record { ring = set w.ring ((w.head + w.count) % most_records) i; marks = set w.marks i true; head = w.head; count = w.count + 1 }
 
 module _ (w : Waiting) (known : Queued w) (i : ℕ) (placed : i < most_records) where
-  pub waits_already : get_or w.marks i false ≡ true → queue_of w ≡ joined_by i (queue_of w)
-  waits_already m = sym (cond-true (waits i (queue_of w)) _ _ (sym (known.marked i placed) ∙ m))
-
   module _ (m : get_or w.marks i false ≡ false) where
     waits_not : waits i (queue_of w) ≡ false
     waits_not = sym (known.marked i placed) ∙ m
@@ -140,25 +120,40 @@ module _ (w : Waiting) (known : Queued w) (i : ℕ) (placed : i < most_records) 
           below = subst (Below most_records) e (All-push (λ k. k < most_records) q i known.below placed);
         }
 
+-- the first so many places have their own numbers
+abbrev pub Own : List ℕ → ℕ → Type 0
+Own ring n = (k : ℕ) → k < n → get_or ring k 0 ≡ k
+
+pub own_none : (ring : List ℕ) → Own ring 0
+own_none ring k l = absurd (omega arith)
+
+pub own_more : (ring : List ℕ) (n : ℕ) → n < length ring → Own ring n → Own (set ring n n) (n + 1)
+own_more ring n l own = below_more _ _ (λ k less. get_or-set_other ring n k n 0 (λ e. omega arith) ∙ own k less) (get_or-set_same ring n n 0 l)
+
+-- so many places at the front
+pub front : {A : Type 0} (x : A) (n : ℕ) → n ≤ most_records → length (take n (replicate most_records x)) ≡ n
+front x n few = length-take-le n (replicate most_records x) (omega (arith, length-replicate most_records x))
+
 -- all wait
 pub record Filled (ring : List ℕ) (marks : List Bool) (n : ℕ) : Type 0 where
   pub places : length ring ≡ most_records
   pub sized : length marks ≡ most_records
-  pub own : (k : ℕ) → k < n → get_or ring k 0 ≡ k
+  pub own : Own ring n
   pub on : (k : ℕ) → k < n → get_or marks k false ≡ true
   pub off : (k : ℕ) → n ≤ k → get_or marks k false ≡ false
 
-pub filled_none : Filled (replicate most_records 0) (replicate most_records false) 0
-filled_none = record { places = refl; sized = refl; own = λ k l. absurd (omega arith); on = λ k l. absurd (omega arith); off = λ k l. get_or_all_false most_records k }
+module _ (n : ℕ) (few : n ≤ most_records) (xs : List ℕ) (len : length xs ≡ n) (own : Own xs n) (ms : List Bool) (full : ms ≡ replicate n true) where
+  marks_len : length ms ≡ n
+  marks_len = ap length full ∙ length-replicate n true
 
-pub filled_more : (ring : List ℕ) (marks : List Bool) (n : ℕ) → n < most_records → Filled ring marks n → Filled (set ring n n) (set marks n true) (n + 1)
-filled_more ring marks n l f = record {
-  places = length-set ring n n ∙ f.places;
-  sized = length-set marks n true ∙ f.sized;
-  own = below_more _ _ (λ k l. get_or-set_other ring n k n 0 (λ e. omega arith) ∙ f.own k l) (get_or-set_same ring n n 0 (omega arith));
-  on = below_more _ _ (λ k l. get_or-set_other marks n k true false (λ e. omega arith) ∙ f.on k l) (get_or-set_same marks n true false (omega arith));
-  off = λ k l. get_or-set_other marks n k true false (λ e. omega arith) ∙ f.off k (omega arith);
-}
+  pub filled : Filled (xs ++ drop n (replicate most_records 0)) (ms ++ drop n (replicate most_records false)) n
+  filled = record {
+    places = length-append xs (drop n (replicate most_records 0)) ∙ omega (arith, length-drop {A = ℕ} n (replicate most_records 0), length-replicate {A = ℕ} most_records 0);
+    sized = length-append ms (drop n (replicate most_records false)) ∙ omega (arith, marks_len, length-drop {A = Bool} n (replicate most_records false), length-replicate {A = Bool} most_records false);
+    own = λ k l. get_or_append_left xs _ 0 k (omega arith) ∙ own k l;
+    on = λ k l. get_or_append_left ms _ false k (omega (arith, marks_len)) ∙ ap (λ x. get_or x k false) full ∙ get_or-replicate n k true false l;
+    off = λ k l. get_or-append_right ms _ n k false marks_len l ∙ get_or-drop n (replicate most_records false) (k - n) false ∙ get_or_all_false most_records (n + (k - n));
+  }
 
 module _ (ring : List ℕ) (marks : List Bool) (n : ℕ) (few : n ≤ most_records) (filled : Filled ring marks n) where
   pub filled_queue : queue_list 0 n ring ≡ positions 0 n

@@ -1,53 +1,48 @@
 -- The loop that lets records join, with a cursor for each of three cells. Assumes nothing.
-use Rattle.std.proofs.Common.{◌≡◌, ℕ, ◌+◌, ◌<◌, ◌≤◌, min, Bool, true, false, List, [], ◌∷◌, ◌++◌, length, get_or, sym, ap, ◌∙◌, subst, arith}
-use Rattle.net.specs.Nets.{among, joining}
-use Rattle.net.specs.Chains.{least_after, chosen}
-use Rattle.net.specs.Links.{slot, counted, stands, passed}
+use Rattle.std.proofs.Common.{◌≡◌, ℕ, ◌+◌, ◌<◌, ◌≤◌, min, true, List, [], ◌∷◌, length, get_or, sym, ap, ◌∙◌, subst, arith}
+use Rattle.std.specs.Prelude.{Option}
+use Rattle.net.specs.Nets.{among}
+use Rattle.net.specs.Chains.{least_after, cursor, counted}
+use Rattle.net.specs.Links.{slots_of, Chained, cell_of, stands, passed}
 use Rattle.net.specs.Queues.{joined_by}
+use Rattle.net.specs.declared.chains.Chains.TheInside.{Inside as Chains}
 use Rattle.net.specs.declared.chains.Cursor.{Cursor}
-use Rattle.net.specs.Cursors.{cursor_length, cursor_finds, cursor_same, cursor_next, least_chosen, least_from}
-use Rattle.net.proofs.Joined.{Joined, joined_start, joined_turn, joined_skip, joined_end}
+use Rattle.net.specs.Cursors.{cursor_length, cursor_finds, cursor_same, cursor_next, least_counted, least_from}
+use Rattle.net.proofs.Joined.{Joined, joined_start, joined_turn, joined_skip}
 
 -- one cursor
-module _ (css : List (List ℕ)) (k : Cursor) where
-  -- where it stands from a position on
-  abbrev pub from_on : ℕ → Cursor
-  from_on i = stands css k.counts k.cell i
-
+module _ (css : List (List ℕ)) (o : Option ℕ) where
+  -- it stands where it has to, from a position on
   abbrev pub Stands : ℕ → Cursor → Type 0
-  Stands i now = now ≡ from_on i
+  Stands i now = now ≡ stands css o i
 
   stays : (i j : ℕ) (now : Cursor) → Stands i now → i ≤ j → j ≤ now.at → Stands j now
   stays i j now e h l =
       let there = ap (λ x. x.at) e in
-      e ∙ ap (λ n. record { cell = k.cell; counts = k.counts; at = n }) (sym (cursor_same css k.counts k.cell i j h (omega arith)))
+      e ∙ ap (λ n. record { cell = cell_of o; at = n }) (sym (cursor_same css o i j h (omega arith)))
 
   passes : (i : ℕ) (now moved : Cursor) → Stands i now → i ≤ now.at → i < length css → moved ≡ passed css now i → Stands (i + 1) moved
   passes i now moved e above l m =
       let there = ap (λ x. x.at) e in
-      m ∙ ap (λ x. passed css x i) e ∙ ap (λ n. record { cell = k.cell; counts = k.counts; at = n }) (sym (cursor_next css k.counts k.cell i i (omega arith) (omega arith) l))
+      m ∙ ap (λ x. passed css x i) e ∙ ap (λ n. record { cell = cell_of o; at = n }) (sym (cursor_next css o i i (omega arith) (omega arith) l))
 
   -- at a position it stands on a record that mentions its cell
   pub mentioned : (i : ℕ) (now : Cursor) → Stands i now → i < length css → now.at ≡ i → among now.cell (get_or css i []) ≡ true
   mentioned i now e l here =
-      let there : (from_on i).at ≡ i = sym (ap (λ x. x.at) e) ∙ here in
-      ap (λ x. among x.cell (get_or css i [])) e ∙ subst (λ n. among k.cell (get_or css n []) ≡ true) there (cursor_finds css k.counts k.cell i (omega arith))
+      let there : cursor css o i ≡ i = sym (ap (λ x. x.at) e) ∙ here in
+      ap (λ x. among x.cell (get_or css i [])) e ∙ subst (λ n. among (cell_of o) (get_or css n []) ≡ true) there (cursor_finds css o i (omega arith))
 
--- a cursor that was just made
-pub started : (css : List (List ℕ)) (counts : Bool) (c : ℕ) (k : Cursor) → k ≡ stands css counts c 0 → Stands css k 0 k
-started css counts c k e = e ∙ sym (ap (λ x. stands css x.counts x.cell 0) e)
-
--- three cursors, as the joining began
-module _ (css : List (List ℕ)) (a b c : Cursor) where
+-- three cursors
+module _ (css : List (List ℕ)) (a b c : Option ℕ) where
   abbrev pub those : List ℕ
-  those = chosen (a.counts ∷ b.counts ∷ c.counts ∷ []) (a.cell ∷ b.cell ∷ c.cell ∷ [])
+  those = counted (a ∷ b ∷ c ∷ [])
 
-  least_stands : (i : ℕ) → least_after css those i ≡ min (min (from_on css a i).at (from_on css b i).at) (from_on css c i).at
+  least_stands : (i : ℕ) → least_after css those i ≡ min (min (cursor css a i) (cursor css b i)) (cursor css c i)
   least_stands i =
-      let first = least_chosen css a.counts (b.counts ∷ c.counts ∷ []) a.cell (b.cell ∷ c.cell ∷ []) i in
-      let second = least_chosen css b.counts (c.counts ∷ []) b.cell (c.cell ∷ []) i in
-      let third = least_chosen css c.counts [] c.cell [] i in
-      omega (arith, cursor_length css c.counts c.cell i)
+      let first = least_counted css a (b ∷ c ∷ []) i in
+      let second = least_counted css b (c ∷ []) i in
+      let third = least_counted css c [] i in
+      omega (arith, cursor_length css c i)
 
   -- the queue was q as the joining began, and is s now
   pub record Waking (q s : List ℕ) (first second third : Cursor) (next : ℕ) : Type 0 where
@@ -109,9 +104,6 @@ module _ (css : List (List ℕ)) (a b c : Cursor) where
           let lc = ap (λ x. x.at) moved_third in
           omega (arith, least_stands (next + 1), least_from css those (next + 1) (omega arith))
 
-    pub waking_end : length css ≤ next → s ≡ q ++ joining css 0 q (λ d. among d those)
-    waking_end past = joined_end css those q next s sofar.joined (omega (arith, least_now))
-
--- which cells count, where the cursors were just made of three cells
-pub those_counted : (css : List (List ℕ)) (cs : List ℕ) (bs : List Bool) (a b c : Cursor) → a ≡ stands css (get_or bs 0 false) (slot cs 0) 0 → b ≡ stands css (get_or bs 1 false) (slot cs 1) 0 → c ≡ stands css (get_or bs 2 false) (slot cs 2) 0 → those css a b c ≡ counted cs bs
-those_counted css cs bs a b c ea eb ec = cc
+-- the number of records, where the chains end
+pub end_is : (css : List (List ℕ)) (ch : Chains) → slots_of ch ≡ css → Chained (slots_of ch) ch → ch.end ≡ length css
+end_is css ch e known = known.count ∙ ap length e

@@ -1,5 +1,5 @@
 -- The records that mention a cell, one after another in list order. Assumes nothing.
-use Rattle.std.specs.Prelude.{ℕ, zero, suc, min, Bool, cond, List, [], ◌∷◌, length}
+use Rattle.std.specs.Prelude.{ℕ, zero, suc, min, cond, List, [], ◌∷◌, length, Some, None, Option}
 use Rattle.net.specs.Nets.{among}
 
 -- The first position, from a given one on, whose record mentions the cell, or the number of records where there is none.
@@ -13,12 +13,13 @@ abbrev pub least_after : List (List ℕ) → (cells : List ℕ) (from : ℕ) →
 least_after css [] from = length css
 least_after css (c ∷ cs) from = min (after css c from) (least_after css cs from)
 
--- A cursor goes along the records that mention a cell, and stands at the end where the cell does not count.
-abbrev pub cursor : List (List ℕ) → Bool → (cell from : ℕ) → ℕ
-cursor css counts c from = cond counts (after css c from) (length css)
+-- A cursor goes along the records that mention a cell, and stands at the end where there is no cell.
+abbrev pub cursor : List (List ℕ) → Option ℕ → (from : ℕ) → ℕ
+cursor css None from = length css
+cursor css (Some c) from = after css c from
 
--- those cells that count
-abbrev pub chosen : List Bool → List ℕ → List ℕ
-chosen [] cs = []
-chosen (b ∷ bs) [] = []
-chosen (b ∷ bs) (c ∷ cs) = cond b (c ∷ chosen bs cs) (chosen bs cs)
+-- the cells that count, of some slots: a slot is empty where its cell does not
+abbrev pub counted : List (Option ℕ) → List ℕ
+counted [] = []
+counted (None ∷ os) = counted os
+counted (Some c ∷ os) = c ∷ counted os

@@ -1,11 +1,12 @@
 -- The loop in which records join the queue: a cursor goes along the chain of each cell that became narrower, and the least is the next. Assumes nothing.
-use Rattle.std.specs.Prelude.{◌≡◌, ℕ, zero, suc, ◌+◌, ◌-◌, ◌<◌, ◌≤◌, min, Bool, true, false, cond, not, ◌&&◌, List, [], ◌∷◌, length, drop, ◌==◌, slice_index_or, refl}
+use Rattle.std.specs.Prelude.{◌≡◌, ℕ, zero, suc, ◌+◌, ◌-◌, ◌<◌, ◌≤◌, min, Bool, true, false, cond, not, ◌&&◌, List, [], ◌∷◌, length, drop, Some, None, Option, ◌==◌, slice_index_or, refl}
 use Rattle.std.proofs.Common.{sym, ap, subst, ◌∙◌, ⊎_elim, add-zero, arith}
 use Rattle.std.proofs.Math.Nat.{suc-le-suc_iff}
 use Rattle.std.proofs.lemmas.List.{get_or-drop, drop-drop, at_drop_more, at_drop_all}
-use Rattle.std.proofs.lemmas.Bool.{cases_Bool, cases_lt, cases_eq, both_ways, false≢true, cond-true, cond-false, cond_both, eq-eqb, eqb-true, ne_eqb, or_parts, or_from, or_left, or_right, or_cases, and_left}
+use Rattle.std.proofs.lemmas.Bool.{cases_Bool, cases_lt, cases_eq, both_ways, false≢true, cond-true, cond-false, eq-eqb, eqb-true, ne_eqb, or_parts, or_from, or_left, or_right, or_cases, and_left}
 use Rattle.net.specs.Nets.{some_cell, among, waits, joining}
-use Rattle.net.specs.Chains.{after, least_after, cursor, chosen}
+use Rattle.net.specs.Chains.{after, least_after, cursor, counted}
+use Rattle.net.specs.Links.{cell_of}
 use Rattle.net.specs.Afters.{after_length, after_from, after_skips, after_finds, after_same}
 
 -- a record none of whose cells passes a test, and one that has such a cell
@@ -56,36 +57,29 @@ module _ (css : List (List ℕ)) (q : List ℕ) (test : ℕ → Bool) where
       joining_between i j h (λ k from l. none_passes test (slice_index_or css k []) (λ c n. after_skips css c i k from (omega (arith, past c n))))
 
 -- the cursor of one cell
-module _ (css : List (List ℕ)) (counts : Bool) (c : ℕ) where
-  pub cursor_length : (i : ℕ) → cursor css counts c i ≤ length css
-  cursor_length i = cond_both counts (after css c i) (length css) (λ n. n ≤ length css) (λ _. after_length css c i) (λ _. omega arith)
-
-  -- before the end it stands on a record that mentions the cell, which counts
-  cursor_counts : (i : ℕ) → cursor css counts c i < length css → counts ≡ true
-  cursor_counts i l = ⊎_elim (λ n. n) (λ n. let e = cond-false counts (after css c i) (length css) n in absurd (omega arith)) (cases_Bool counts)
+module _ (css : List (List ℕ)) where
+  pub cursor_length : (o : Option ℕ) (i : ℕ) → cursor css o i ≤ length css
+  cursor_length None i = omega arith
+  cursor_length (Some c) i = after_length css c i
 
   -- it is the same from each position up to it
-  pub cursor_same : (i j : ℕ) → i ≤ j → j ≤ cursor css counts c i → cursor css counts c j ≡ cursor css counts c i
-  cursor_same i j h =
-      cond_both counts (after css c i) (length css) (λ n. j ≤ n → cursor css counts c j ≡ n)
-      (λ e l. cond-true counts _ _ e ∙ after_same css c i j h l)
-      (λ e l. cond-false counts _ _ e)
+  pub cursor_same : (o : Option ℕ) (i j : ℕ) → i ≤ j → j ≤ cursor css o i → cursor css o j ≡ cursor css o i
+  cursor_same None i j h l = refl
+  cursor_same (Some c) i j h l = after_same css c i j h l
 
-  pub cursor_finds : (i : ℕ) → cursor css counts c i < length css → among c (slice_index_or css (cursor css counts c i) []) ≡ true
-  cursor_finds i l =
-      let e = cond-true counts (after css c i) (length css) (cursor_counts i l) in
-      ap (λ k. among c (slice_index_or css k [])) e ∙ after_finds css c i (omega arith)
+  -- before the end it stands on a record that mentions its cell
+  pub cursor_finds : (o : Option ℕ) (i : ℕ) → cursor css o i < length css → among (cell_of o) (slice_index_or css (cursor css o i) []) ≡ true
+  cursor_finds None i l = absurd (omega arith)
+  cursor_finds (Some c) i l = after_finds css c i l
 
   -- past a position it moves on along its chain if it stands there, and else stays
-  cursor_moves : (i j : ℕ) → cursor css counts c i ≡ j → j < length css → cursor css counts c (j + 1) ≡ after css c (j + 1)
-  cursor_moves i j e l = cond-true counts _ _ (cursor_counts i (omega arith))
-
-  pub cursor_next : (i j : ℕ) → i ≤ j → j ≤ cursor css counts c i → j < length css → cursor css counts c (j + 1) ≡ cond (cursor css counts c i == j) (after css c (j + 1)) (cursor css counts c i)
-  cursor_next i j h l within =
+  pub cursor_next : (o : Option ℕ) (i j : ℕ) → i ≤ j → j ≤ cursor css o i → j < length css → cursor css o (j + 1) ≡ cond (cursor css o i == j) (after css (cell_of o) (j + 1)) (cursor css o i)
+  cursor_next None i j h l within = sym (cond-false _ _ _ (ne_eqb (length css) j (λ e. omega arith)))
+  cursor_next (Some c) i j h l within =
       ⊎_elim
-      (λ e. cursor_moves i j e within ∙ sym (cond-true _ _ _ (eq-eqb _ _ e)))
-      (λ ne. cursor_same i (j + 1) (omega arith) (omega arith) ∙ sym (cond-false _ _ _ (ne_eqb _ _ ne)))
-      (cases_eq (cursor css counts c i) j)
+      (λ e. sym (cond-true _ _ _ (eq-eqb _ _ e)))
+      (λ ne. after_same css c i (j + 1) (omega arith) (omega arith) ∙ sym (cond-false _ _ _ (ne_eqb _ _ ne)))
+      (cases_eq (after css c i) j)
 
 -- where the first of the chains of some cells stands
 module _ (css : List (List ℕ)) where
@@ -117,9 +111,9 @@ module _ (css : List (List ℕ)) where
       (cases_lt x y)
 
   -- it is the least of the cursors
-  pub least_chosen : (b : Bool) (bs : List Bool) (c : ℕ) (cs : List ℕ) (i : ℕ) → least_after css (chosen (b ∷ bs) (c ∷ cs)) i ≡ min (cursor css b c i) (least_after css (chosen bs cs) i)
-  least_chosen true bs c cs i = refl
-  least_chosen false bs c cs i = omega (arith, least_length (chosen bs cs) i)
+  pub least_counted : (o : Option ℕ) (os : List (Option ℕ)) (i : ℕ) → least_after css (counted (o ∷ os)) i ≡ min (cursor css o i) (least_after css (counted os) i)
+  least_counted None os i = omega (arith, least_length (counted os) i)
+  least_counted (Some c) os i = refl
 
 swap : {X : Type 0} (b w : Bool) (x y : X) → b ≡ true → cond (b && not w) x y ≡ cond w y x
 swap b true x y e = cc

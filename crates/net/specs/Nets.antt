@@ -1,5 +1,6 @@
 -- A net: records that wait in a queue to be used again. Assumes nothing.
-use Rattle.std.specs.Prelude.{◌≡◌, ℕ, zero, suc, ◌+◌, ◌*◌, ◌≤◌, max, Bool, true, false, cond, not, ◌&&◌, ◌||◌, List, [], ◌∷◌, ◌++◌, map, length, ◌==◌}
+use Rattle.std.specs.Prelude.{◌≡◌, ℕ, zero, suc, ◌+◌, ◌*◌, ◌≤◌, max, Bool, true, false, cond, not, ◌&&◌, ◌||◌, List, [], ◌∷◌, ◌++◌, map, length, Option, ◌==◌}
+use Rattle.std.specs.Bool.{then_some}
 use Rattle.std.specs.List.{AllByRecursion}
 use Rattle.tube.specs.Tubes.{Trajectory, cell}
 use Rattle.tube.specs.declared.row.Row.{Row}
@@ -34,6 +35,14 @@ greatest_need (k ∷ ks) = max k.value.need (greatest_need ks)
 -- a cell is not as it was
 abbrev pub narrower : List Row → List Row → ℕ → Bool
 narrower t u c = not (same_row (cell t c) (cell u c))
+
+-- a cell, if its rows before and after are not the same
+abbrev pub if_other : ℕ → Row → Row → Option ℕ
+if_other c before after = then_some (not (same_row before after)) c
+
+-- which is to say, if it is not as it was
+abbrev pub if_narrower : List Row → List Row → ℕ → Option ℕ
+if_narrower t u c = if_other c (cell t c) (cell u c)
 
 -- one of the cells passes a test
 abbrev pub some_cell : (ℕ → Bool) → List ℕ → Bool

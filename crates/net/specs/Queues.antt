@@ -2,7 +2,7 @@
 use Rattle.std.specs.Prelude.{◌≡◌, ℕ, zero, suc, ◌+◌, ◌%◌, ◌<◌, Bool, false, cond, List, [], ◌∷◌, ◌++◌, Some, None, Option, slice_index, slice_index_or}
 use Rattle.std.specs.List.{AllByRecursion}
 use Rattle.net.specs.Nets.{waits, most_records}
-use Rattle.net.specs.declared.waiting.Waiting.{Waiting}
+use Rattle.net.specs.declared.waiting.Waiting.TheInside.{Inside as Waiting}
 
 -- the numbers of a ring from a place on, so many of them
 abbrev pub queue_list : (head count : ℕ) → List ℕ → List ℕ

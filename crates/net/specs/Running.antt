@@ -1,6 +1,6 @@
 -- The run of a net in code: what is known as each turn begins, and how a turn ends. Assumes nothing.
-use Rattle.std.specs.Prelude.{◌≡◌, ℕ, suc, ◌+◌, ◌-◌, ◌<◌, ◌≤◌, Bool, true, List, [], ◌∷◌, ◌++◌, map, length, get_or, slice_index_or, refl}
-use Rattle.std.proofs.Common.{sym, ap, subst, ◌∙◌, arith}
+use Rattle.std.specs.Prelude.{◌≡◌, ℕ, suc, ◌+◌, ◌-◌, ◌<◌, ◌≤◌, true, List, [], ◌∷◌, ◌++◌, map, length, get_or, slice_index_or, refl}
+use Rattle.std.proofs.Common.{sym, ap, ap₂, subst, ◌∙◌, arith}
 use Rattle.std.specs.List.{AllByRecursion}
 use Rattle.std.proofs.lemmas.List.{length-map, get_or-map}
 use Rattle.tube.specs.Tubes.{is_tube}
@@ -17,8 +17,9 @@ use Rattle.constraint.specs.Mentions.{cell_slots}
 use Rattle.constraint.specs.declared.constraint.Constraint.{Constraint}
 use Rattle.constraint.specs.declared.constraint.Constraint.TheVariants.{Bound as of_bound, Step as of_step, Range as of_range}
 use Rattle.constraint.specs.Keeping.{constraint_keeps}
-use Rattle.net.specs.Nets.{mentions, greatest_need, narrower, among, joining, positions, rest_mark, net_digit, at_position, spun, Recorded}
-use Rattle.net.specs.Links.{slots, counted}
+use Rattle.net.specs.Nets.{mentions, greatest_need, narrower, if_narrower, among, joining, positions, rest_mark, net_digit, at_position, spun, Recorded}
+use Rattle.net.specs.Chains.{counted}
+use Rattle.net.specs.Links.{slots}
 use Rattle.net.specs.Queues.{Below}
 use Rattle.net.specs.Records.{part, parts}
 use Rattle.net.specs.Uses.{UseOf}
@@ -40,15 +41,11 @@ all_recorded [] = tt
 all_recorded (k ∷ ks) = (constraint_recorded k, all_recorded ks)
 
 -- who waits after a use, as the chains find them
-pub joined_after : (ks : List Constraint) (css : List (List ℕ)) (q : List ℕ) (k : Constraint) (t u : List Row) (r : Use) → css ≡ slots ks → UseOf k t u r → q ++ joining css 0 q (λ c. among c (counted r.cells r.narrower)) ≡ q ++ joining (mentions (parts ks)) 0 q (narrower t u)
+pub joined_after : (ks : List Constraint) (css : List (List ℕ)) (q : List ℕ) (k : Constraint) (t u : List Row) (r : Use) → css ≡ slots ks → UseOf k t u r → q ++ joining css 0 q (λ c. among c (counted r.narrower)) ≡ q ++ joining (mentions (parts ks)) 0 q (narrower t u)
 joined_after ks css q k t u r e made =
-    let put : List (List ℕ) → List ℕ → List Bool → List ℕ = λ ds cs bs. q ++ joining ds 0 q (λ c. among c (counted cs bs)) in
-    let slots_put : List Bool → List ℕ = put (slots ks) (cell_slots k) in
-    let same : (c : ℕ) → among c (counted (cell_slots k) (map (narrower t u) (cell_slots k))) ≡ narrower t u c =
-    λ c. subst (λ w. among c (counted (cell_slots k) (map (narrower t w) (cell_slots k))) ≡ narrower t w c) (sym made.left) (narrower_counted k t c) in
-    ap (λ ds. put ds r.cells r.narrower) e
-    ∙ ap (λ cs. put (slots ks) cs r.narrower) made.cells
-    ∙ ap slots_put made.narrower
+    let same : (c : ℕ) → among c (counted (map (if_narrower t u) (cell_slots k))) ≡ narrower t u c =
+    λ c. subst (λ w. among c (counted (map (if_narrower t w) (cell_slots k))) ≡ narrower t w c) (sym made.left) (narrower_counted k t c) in
+    ap₂ (λ ds os. q ++ joining ds 0 q (λ c. among c (counted os))) e made.narrower
     ∙ ap (λ j. q ++ j) (joining_alike _ (narrower t u) same (slots ks) 0 q ∙ joining_slots ks 0 q (narrower t u))
 
 -- The run began on the tube t₀ with all records waiting. Now some calls are made, q waits and t is left.

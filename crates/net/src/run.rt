@@ -3,10 +3,9 @@ ghost use Rattle.std.specs.Prelude.{◌≡◌, ◌+◌, ◌*◌, ◌^◌, ◌<�
 ghost use Rattle.tube.specs.Tubes.{is_tube, cell};
 ghost use Rattle.contractor.specs.Contractors.{Accepted};
 ghost use Rattle.contractor.specs.Layers.{passed_up, leaving};
-ghost use Rattle.contractor.specs.Repetitions.{same_row};
 ghost use Rattle.constraint.specs.Kinds.{constraint_value};
 ghost use Rattle.net.specs.Links.{Three};
-ghost use Rattle.net.specs.Nets.{greatest_need, net_digit, positions, spun, most_records};
+ghost use Rattle.net.specs.Nets.{greatest_need, if_other, net_digit, positions, spun, most_records};
 ghost use Rattle.net.specs.Records.{parts};
 ghost use Rattle.net.specs.Uses.{UseOf};
 
@@ -19,12 +18,11 @@ use tube::Row;
 // The digit that a fault's path gets on its way up.
 const DIGIT: u64 = 5;
 
-// What a use of a record did: its verdict, and which of the record's cells it made narrower.
+// What a use of a record did: its verdict, and slot by slot those of the record's cells that it made narrower.
 #[derive(Clone, Copy)]
 struct Use {
     verdict: Verdict,
-    cells: [u16; 3],
-    narrower: [bool; 3],
+    narrower: [Option<u16>; 3],
 }
 
 // The most cells that any of some records needs.
@@ -36,12 +34,6 @@ pub(crate) fn greatest_need(records: &[Constraint]) -> usize
         need = constraint.need().max(need);
     }
     need
-}
-
-fn is_same(first: Row, second: Row) -> bool
-    ensures { result ≡ same_row first second }
-{
-    first.low == second.low && first.high == second.high
 }
 
 // The fault as a net passes it up.
@@ -64,6 +56,13 @@ fn rows_at(tube: &[Row], cells: [u16; 3]) -> [Row; 3]
     [tube[a as usize], tube[b as usize], tube[c as usize]]
 }
 
+// A cell, if its rows before and after are not the same.
+fn if_other(cell: u16, before: Row, after: Row) -> Option<u16>
+    ensures { result ≡ if_other cell before after }
+{
+    (before != after).then_some(cell)
+}
+
 // Uses a constraint on a tube, and compares the cells that it mentions.
 fn use_on(constraint: Constraint, tube: &mut [Row]) -> Use
     requires { Accepted (constraint_value constraint) tube.old }
@@ -76,11 +75,10 @@ fn use_on(constraint: Constraint, tube: &mut [Row]) -> Use
     let after = rows_at(tube, cells);
     Use {
         verdict: answer.verdict,
-        cells,
         narrower: [
-            !is_same(before[0], after[0]),
-            !is_same(before[1], after[1]),
-            !is_same(before[2], after[2]),
+            if_other(cells[0], before[0], after[0]),
+            if_other(cells[1], before[1], after[1]),
+            if_other(cells[2], before[2], after[2]),
         ],
     }
 }
@@ -95,6 +93,7 @@ pub(crate) fn run(records: &[Constraint], allowance: u64, tube: &mut [Row]) -> A
     let chains = Chains::of(records);
     let mut waiting = Waiting::all(records.len());
     let mut calls = 0;
+    // Counted by hand: a `for` would spell the answer at three ends, with `calls`, `calls + 1` and `allowance`.
     while calls < allowance {
         let Some(position) = waiting.take_first() else {
             break;
@@ -102,7 +101,7 @@ pub(crate) fn run(records: &[Constraint], allowance: u64, tube: &mut [Row]) -> A
         let used = use_on(records[position as usize], tube);
         calls += 1;
         match used.verdict {
-            Verdict::Kept(_) => chains.wake(&mut waiting, used.cells, used.narrower),
+            Verdict::Kept(_) => chains.wake(&mut waiting, used.narrower),
             Verdict::Empty(fault) => return Answer::empty(passed_up(fault), calls),
         }
     }

@@ -1,12 +1,14 @@
 // The records that wait to be used, in the order in which they will be.
 ghost use Rattle.std.specs.Prelude.{◌≡◌, ◌<◌, ◌≤◌};
 ghost use Rattle.net.specs.Nets.{positions, rest_mark, most_records};
-ghost use Rattle.net.specs.Queues.{queue_of, Queued, Taken, joined_by};
+ghost use Rattle.net.specs.Queues.{Taken, joined_by};
 
 use crate::net::MAX_RECORDS;
 use contractor::Mark;
+use std::marker::Model;
 
 // A ring of positions in the net's list, and a mark for each record that stands in it.
+// No heap and fixed memory, so both are arrays as long as the largest net.
 #[derive(Drop)]
 pub(crate) struct Waiting {
     ring: [u16; MAX_RECORDS],
@@ -15,18 +17,30 @@ pub(crate) struct Waiting {
     count: usize,
 }
 
+// A clause sees the positions that wait, the first one first.
+impl Model for Waiting {
+    ghost use Rattle.std.specs.Prelude.{ℕ, List};
+
+    ghost Value = { List ℕ };
+
+    ghost use Rattle.net.specs.Queues.{queue_of, Queued};
+
+    ghost view = { queue_of };
+
+    ghost invariant = { Queued };
+}
+
 impl Waiting {
     // The first so many records wait, in list order.
     pub(crate) fn all(count: usize) -> Self
         requires { count ≤ most_records }
-        ensures queue { queue_of result ≡ positions 0 count }
-        ensures queued { Queued result }
+        ensures { result ≡ positions 0 count }
     {
         let mut ring = [0u16; MAX_RECORDS];
         let mut marks = [false; MAX_RECORDS];
-        for i in 0..count {
-            ring[i] = i as u16;
-            marks[i] = true;
+        marks[..count].fill(true);
+        for (i, place) in ring[..count].iter_mut().enumerate() {
+            *place = i as u16;
         }
         Waiting {
             ring,
@@ -38,7 +52,7 @@ impl Waiting {
 
     // How a run is told that ends here.
     pub(crate) fn mark(&self) -> Mark
-        ensures { result ≡ rest_mark (queue_of self.now) }
+        ensures { result ≡ rest_mark self.now }
     {
         if self.count == 0 {
             Mark::Settled
@@ -49,9 +63,7 @@ impl Waiting {
 
     // Takes off the first.
     pub(crate) fn take_first(&mut self) -> Option<u16>
-        requires { Queued self.old }
-        ensures taken { Taken (queue_of self.old) result (queue_of self.new) }
-        ensures queued { Queued self.new }
+        ensures { Taken self.old result self.new }
     {
         if self.count == 0 {
             return None;
@@ -65,10 +77,8 @@ impl Waiting {
 
     // Lets a record join the end, unless it waits already.
     pub(crate) fn join(&mut self, position: u16)
-        requires queued { Queued self.old }
-        requires placed { position < most_records }
-        ensures joined { queue_of self.new ≡ joined_by position (queue_of self.old) }
-        ensures queued { Queued self.new }
+        requires { position < most_records }
+        ensures { self.new ≡ joined_by position self.old }
     {
         if self.marks[position as usize] {
             return;

@@ -13,10 +13,7 @@ use contractor::{BuildRefusal, Rounds};
 fn filler() -> Constraint
     ensures { constraint_value result ≡ bound 0 0 (pos 0) (pos 0) }
 {
-    match Bound::new(0, 0, 0, 0) {
-        Ok(bound) => Constraint::Bound(bound),
-        Err(_) => unreachable(),
-    }
+    Constraint::Bound(Bound::new(0, 0, 0, 0).unwrap())
 }
 
 impl Net {

@@ -1,53 +1,48 @@
 use Rattle.std.proofs.Common.{◌≡◌, ◌+◌, sym, ap, ◌∙◌, subst, arith}
-use Rattle.tube.specs.Tubes.{most_cells}
+use Rattle.std.specs.List.{AllByRecursion}
 use Rattle.contractor.specs.Answers.{kept, emptied}
 use Rattle.contractor.specs.Layers.{leaving}
-use Rattle.net.specs.Links.{Three, slots_of}
+use Rattle.net.specs.Links.{InTable}
 use Rattle.net.specs.Nets.{rest_mark}
-use Rattle.net.specs.Queues.{queue_of}
 use Rattle.net.specs.Running.{running_start, running_settled, running_over, first_accepted, running_more, running_empty, short_path, joined_after}
-use Rattle.net.specs.Slots.{three_slots}
+use Rattle.net.specs.Slots.{three_slots, narrower_in}
 use Rattle.net.proofs.run.run.Goals as goal
 use Rattle.net.proofs.run.run.Goals.{else-loop-calls-test, then-loop-calls-test+in_default}
 
 pub loop-calls-init : goal.loop-calls-init
-loop-calls-init c = (c.all-waiting.ensures.queued, running_start c.args.records.now c.args.allowance c.args.tube.now _ c.all-waiting.ensures.queue c.requires.tube c.requires.need)
+loop-calls-init c = running_start c.args.records.now c.args.allowance c.args.tube.now _ c.all-waiting.ensures c.requires.tube c.requires.need
 
 pub use_on-used-requires : goal.use_on-used-requires
-use_on-used-requires c = first_accepted _ _ _ _ _ _ c.loop-calls.invariant.1 _ _ c.in-Some.ensures.taken _ c.index-records-position.is
+use_on-used-requires c = first_accepted _ _ _ _ _ _ c.loop-calls.invariant _ _ c.in-Some.ensures _ c.index-records-position.is
 
 pub wake-requires : goal.wake-requires
-wake-requires c = record {
-  chained = c.of-chains.ensures.chained;
-  queued = c.in-Some.ensures.queued;
-  placed = subst (Three most_cells) (sym c.use_on-used.ensures.cells) (three_slots c.index-records-position.result);
-}
+wake-requires c = subst (AllByRecursion InTable) (sym c.use_on-used.ensures.narrower) (narrower_in _ _ _ (three_slots c.index-records-position.result))
 
 pub loop-calls-preserved : goal.loop-calls-preserved
 loop-calls-preserved c =
     let k = c.index-records-position.result in
-    let joined = c.wake.ensures.joined ∙ joined_after c.args.records.now (slots_of c.of-chains.result) (queue_of c.take_first.new.self) k c.loop-calls.tube c.use_on-used.new.tube c.use_on-used.result c.of-chains.ensures.slots c.use_on-used.ensures in
-    (c.wake.ensures.queued, running_more _ _ _ _ _ _ c.loop-calls.invariant.1 _ _ c.in-Some.ensures.taken k c.index-records-position.is (omega arith) c.use_on-used.new.tube c.use_on-used.result c.use_on-used.ensures _ _ c.in-Kept.is joined)
+    let joined = c.wake.ensures ∙ joined_after c.args.records.now c.of-chains.result c.take_first.new.self k c.loop-calls.tube c.use_on-used.new.tube c.use_on-used.result c.of-chains.ensures c.use_on-used.ensures in
+    running_more _ _ _ _ _ _ c.loop-calls.invariant _ _ c.in-Some.ensures k c.index-records-position.is (omega arith) c.use_on-used.new.tube c.use_on-used.result c.use_on-used.ensures _ _ c.in-Kept.is joined
 
 pub passed_up-requires : goal.passed_up-requires
 passed_up-requires c =
     let k = c.index-records-position.result in
-    let short = short_path _ _ _ _ _ _ c.loop-calls.invariant.1 _ _ c.in-Some.ensures.taken k c.index-records-position.is (omega arith) c.use_on-used.new.tube c.use_on-used.result c.use_on-used.ensures c.in-Empty.fault c.in-Empty.is in
+    let short = short_path _ _ _ _ _ _ c.loop-calls.invariant _ _ c.in-Some.ensures k c.index-records-position.is (omega arith) c.use_on-used.new.tube c.use_on-used.result c.use_on-used.ensures c.in-Empty.fault c.in-Empty.is in
     omega arith
 
 pub returns-in-Empty : goal.returns-in-Empty
 returns-in-Empty c =
     let k = c.index-records-position.result in
     ap (λ a. leaving a c.use_on-used.new.tube) (c.empty.ensures ∙ ap (λ f. emptied f (c.loop-calls.calls + 1)) c.passed_up.ensures)
-    ∙ running_empty _ _ _ _ _ _ c.loop-calls.invariant.1 _ _ c.in-Some.ensures.taken k c.index-records-position.is (omega arith) c.use_on-used.new.tube c.use_on-used.result c.use_on-used.ensures c.in-Empty.fault c.in-Empty.is
+    ∙ running_empty _ _ _ _ _ _ c.loop-calls.invariant _ _ c.in-Some.ensures k c.index-records-position.is (omega arith) c.use_on-used.new.tube c.use_on-used.result c.use_on-used.ensures c.in-Empty.fault c.in-Empty.is
 
 pub returns : goal.returns
 returns c =
     let tube = c.loop-calls.tube in
     let calls = c.loop-calls.calls in
-    let told : leaving c.kept.result tube ≡ leaving (kept (rest_mark (queue_of c.loop-calls-test.waiting)) calls) tube =
+    let told : leaving c.kept.result tube ≡ leaving (kept (rest_mark c.loop-calls-test.waiting) calls) tube =
     ap (λ a. leaving a tube) (c.kept.ensures ∙ ap (λ m. kept m calls) c.mark.ensures) in
     elim c.loop-calls-test.branch [
-      | else-loop-calls-test w ↦ told ∙ ap (λ x. leaving (kept (rest_mark (queue_of x)) calls) tube) w.waiting-is ∙ running_over _ _ _ _ _ _ c.loop-calls.invariant.1 w.loop-calls-test.false
-      | then-loop-calls-test+in_default w ↦ told ∙ running_settled _ _ _ _ _ _ c.loop-calls.invariant.1 _ w.in_default.ensures.taken.0 (ap queue_of w.waiting-is ∙ w.in_default.ensures.taken.1)
+      | else-loop-calls-test w ↦ told ∙ ap (λ x. leaving (kept (rest_mark x) calls) tube) w.waiting-is ∙ running_over _ _ _ _ _ _ c.loop-calls.invariant w.loop-calls-test.false
+      | then-loop-calls-test+in_default w ↦ told ∙ running_settled _ _ _ _ _ _ c.loop-calls.invariant _ w.in_default.ensures.0 (w.waiting-is ∙ w.in_default.ensures.1)
     ]

@@ -1,5 +1,5 @@
-use Rattle.net.proofs.Rings.{Filled}
+use Rattle.net.proofs.Rings.{Own}
 use Rattle.net.proofs.waiting.Waiting.all.Given as goal
 
 abbrev pub invariant-loop-i : goal.invariant-loop-i
-invariant-loop-i l = Filled l.ring l.marks l.i
+invariant-loop-i l = Own l.place-items l.i
