@@ -3,6 +3,9 @@ pub mod Sayings
 pub mod Readings
 pub mod Earliest
 pub mod Checks
+pub mod Paging
+pub mod Numbers
 pub mod Puts
+pub mod Lengths
 pub mod Blames
 pub mod Fillings

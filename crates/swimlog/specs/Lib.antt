@@ -5,3 +5,6 @@ pub mod Records
 pub mod Logs
 pub mod Fillings
 pub mod Report
+pub mod Rooms
+pub mod Pages
+pub mod Signs

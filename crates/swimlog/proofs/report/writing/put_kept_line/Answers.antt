@@ -1,22 +1,30 @@
-use Rattle.std.proofs.Common.{[], ◌∷◌, ◌++◌, vec_items, codes, decimal}
-use Rattle.swimlog.specs.Report.{space, line_end, line, mark_word}
-use Rattle.swimlog.proofs.Puts.{put_as, put_then, put_stopped, kept_line}
+use Rattle.std.proofs.Common.{[], ◌∷◌, ◌++◌, codes, decimal, sym, ap, ◌∙◌, subst}
+use Rattle.swimlog.specs.Pages.{page_bytes, Room}
+use Rattle.swimlog.specs.Report.{space, line_end, mark_word}
+use Rattle.swimlog.proofs.Paging.{room_middle, room_last, put_all}
+use Rattle.swimlog.proofs.Puts.{kept_line}
 use Rattle.swimlog.proofs.report.writing.put_kept_line.Goals as goal
 
-pub returns-in_err-put_number : goal.returns-in_err-put_number
-returns-in_err-put_number c =
-    put_stopped (vec_items c.args.out.now) (vec_items c.put.new.out) (vec_items c.put_number.new.out) (codes "kept ") c.in_ok-put.ensures
-    (line (codes "kept") (decimal c.args.calls ∷ mark_word c.args.mark ∷ [])) c.from_residual-in_err-put_number.result c.from_residual-in_err-put_number.ensures.0 c.in_err-put_number.ensures
+pub put_number-requires : goal.put_number-requires
+put_number-requires c =
+    let page = c.args.page.now in
+    let digits = decimal c.args.calls in
+    let word = mark_word c.args.mark in
+    room_middle page (codes "kept ") digits (space ∷ (word ++ (line_end ∷ []))) (subst (Room page) (sym (kept_line digits word)) c.requires) c.put.new.self c.put.ensures
+
+pub put-requires-2 : goal.put-requires-2
+put-requires-2 c =
+    let page = c.args.page.now in
+    let digits = decimal c.args.calls in
+    let word = mark_word c.args.mark in
+    subst (Room c.put_number.new.self) (sym c.mark_end.ensures)
+    (room_last page (codes "kept ") digits (space ∷ (word ++ (line_end ∷ []))) (subst (Room page) (sym (kept_line digits word)) c.requires) c.put.new.self c.put.ensures c.put_number.new.self c.put_number.ensures)
 
 pub returns : goal.returns
 returns c =
-    let before = vec_items c.args.out.now in
-    let one = vec_items c.put.new.out in
-    let two = vec_items c.put_number.new.out in
-    let after = vec_items c.put-2.new.out in
+    let before = page_bytes c.args.page.now in
+    let two = page_bytes c.put_number.new.self in
     let digits = decimal c.args.calls in
-    let end = space ∷ (mark_word c.args.mark ++ (line_end ∷ [])) in
-    put_as before (codes "kept " ++ (digits ++ end)) (line (codes "kept") (digits ∷ mark_word c.args.mark ∷ [])) after c.put-2.result (kept_line digits (mark_word c.args.mark))
-    (put_then before one after (codes "kept ") c.in_ok-put.ensures (digits ++ end) c.put-2.result
-    (put_then one two after digits c.in_ok-put_number.ensures end c.put-2.result
-    (put_as two _ end after c.put-2.result c.mark_end.ensures c.put-2.ensures)))
+    let word = mark_word c.args.mark in
+    put_all before (page_bytes c.put.new.self) two (page_bytes c.put-2.new.self) (codes "kept ") digits (space ∷ (word ++ (line_end ∷ [])))
+    c.put.ensures c.put_number.ensures (c.put-2.ensures ∙ ap (λ l. two ++ l) c.mark_end.ensures) ∙ ap (λ l. before ++ l) (kept_line digits word)

@@ -1,14 +1,20 @@
-use Rattle.std.proofs.Common.{map, vec_items, decimal}
-use Rattle.swimlog.specs.Report.{spaced, line}
-use Rattle.swimlog.proofs.Puts.{put_stopped, put_line_end}
+use Rattle.std.proofs.Common.{[], ◌∷◌, ◌++◌, map, decimal}
+use Rattle.swimlog.specs.Pages.{page_bytes}
+use Rattle.swimlog.specs.Report.{line_end, spaced}
+use Rattle.swimlog.proofs.Paging.{room_first, room_middle, room_last, put_all}
 use Rattle.swimlog.proofs.report.writing.put_line.Goals as goal
 
-pub returns-in_err-put_fields : goal.returns-in_err-put_fields
-returns-in_err-put_fields c =
-    put_stopped (vec_items c.args.out.now) (vec_items c.put.new.out) (vec_items c.put_fields.new.out) c.args.word.now c.in_ok-put.ensures
-    (line c.args.word.now (map decimal c.args.fields.now)) c.from_residual-in_err-put_fields.result c.from_residual-in_err-put_fields.ensures.0 c.in_err-put_fields.ensures
+pub put-requires : goal.put-requires
+put-requires c = room_first c.args.page.now c.args.word.now (spaced (map decimal c.args.fields.now) ++ (line_end ∷ [])) c.requires
+
+pub put_fields-requires : goal.put_fields-requires
+put_fields-requires c = room_middle c.args.page.now c.args.word.now (spaced (map decimal c.args.fields.now)) (line_end ∷ []) c.requires c.put.new.self c.put.ensures
+
+pub put_byte-requires : goal.put_byte-requires
+put_byte-requires c =
+    room_last c.args.page.now c.args.word.now (spaced (map decimal c.args.fields.now)) (line_end ∷ []) c.requires c.put.new.self c.put.ensures c.put_fields.new.page c.put_fields.ensures
 
 pub returns : goal.returns
 returns c =
-    put_line_end (vec_items c.args.out.now) (vec_items c.put.new.out) (vec_items c.put_fields.new.out) (vec_items c.put-2.new.out)
-    c.args.word.now (spaced (map decimal c.args.fields.now)) c.put-2.result c.in_ok-put.ensures c.in_ok-put_fields.ensures c.put-2.ensures
+    put_all (page_bytes c.args.page.now) (page_bytes c.put.new.self) (page_bytes c.put_fields.new.page) (page_bytes c.put_byte.new.self)
+    c.args.word.now (spaced (map decimal c.args.fields.now)) (line_end ∷ []) c.put.ensures c.put_fields.ensures c.put_byte.ensures

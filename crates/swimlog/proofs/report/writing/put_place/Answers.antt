@@ -1,14 +1,28 @@
-use Rattle.std.proofs.Common.{[], ◌∷◌, ◌++◌, vec_items, sym}
+use Rattle.std.proofs.Common.{[], ◌∷◌, ◌++◌, sym, ap, ◌∙◌, subst}
 use Rattle.std.specs.Fmt.{signed_decimal}
-use Rattle.swimlog.specs.Report.{spaced, place_fields}
-use Rattle.swimlog.proofs.Puts.{put_as, put_then, spaced_append}
+use Rattle.swimlog.specs.Pages.{page_bytes, Room}
+use Rattle.swimlog.specs.Report.{spaced}
+use Rattle.swimlog.proofs.Paging.{room_first, room_second, put_both}
+use Rattle.swimlog.proofs.Puts.{spaced_append}
 use Rattle.swimlog.proofs.report.writing.put_place.Goals as goal
+
+pub put_ends-requires : goal.put_ends-requires
+put_ends-requires c =
+    let page = c.args.page.now in
+    let x = signed_decimal c.args.x.low ∷ signed_decimal c.args.x.high ∷ [] in
+    let y = signed_decimal c.args.y.low ∷ signed_decimal c.args.y.high ∷ [] in
+    room_first page (spaced x) (spaced y) (subst (Room page) (spaced_append x y) c.requires)
+
+pub put_ends-requires-2 : goal.put_ends-requires-2
+put_ends-requires-2 c =
+    let page = c.args.page.now in
+    let x = signed_decimal c.args.x.low ∷ signed_decimal c.args.x.high ∷ [] in
+    let y = signed_decimal c.args.y.low ∷ signed_decimal c.args.y.high ∷ [] in
+    room_second page (spaced x) (spaced y) (subst (Room page) (spaced_append x y) c.requires) c.put_ends.new.page c.put_ends.ensures
 
 pub returns : goal.returns
 returns c =
-    let before = vec_items c.args.out.now in
-    let after = vec_items c.put_ends-2.new.out in
+    let before = page_bytes c.args.page.now in
     let x = signed_decimal c.args.x.low ∷ signed_decimal c.args.x.high ∷ [] in
     let y = signed_decimal c.args.y.low ∷ signed_decimal c.args.y.high ∷ [] in
-    put_as before (spaced x ++ spaced y) (spaced (place_fields c.args.x c.args.y)) after c.put_ends-2.result (sym (spaced_append x y))
-    (put_then before (vec_items c.put_ends.new.out) after (spaced x) c.in_ok-put_ends.ensures (spaced y) c.put_ends-2.result c.put_ends-2.ensures)
+    put_both before (page_bytes c.put_ends.new.page) (page_bytes c.put_ends-2.new.page) (spaced x) (spaced y) c.put_ends.ensures c.put_ends-2.ensures ∙ ap (λ l. before ++ l) (sym (spaced_append x y))
