@@ -12,9 +12,11 @@ use Rattle.swimlog.specs.Pages.{Spare, Room}
 use Rattle.swimlog.specs.Report.{line_end, spaced, line, mark_word, place_fields}
 use Rattle.swimlog.specs.Rooms.{kept_line_length, gate_line_length}
 use Rattle.swimlog.specs.declared.page.Page.{Page}
-use Rattle.swimlog.proofs.Numbers.{twenty_digits}
 
 -- ---- numbers
+
+twenty_digits : (n : ℕ) → n < 2 ^ 64 → length (decimal n) ≤ 20
+twenty_digits n fits = length-decimal-le 20 n (omega arith) (omega arith) fits
 
 pub three_digits : (gate : ℕ) → gate < most_gates → length (decimal gate) ≤ 3
 three_digits gate small = length-decimal-le 3 gate (omega arith) (omega arith) (omega arith)

@@ -4,7 +4,6 @@ pub mod Readings
 pub mod Earliest
 pub mod Checks
 pub mod Paging
-pub mod Numbers
 pub mod Puts
 pub mod Lengths
 pub mod Blames

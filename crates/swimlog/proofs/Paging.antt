@@ -1,32 +1,9 @@
--- What a page holds after bytes were written behind those that it held. Assumes nothing.
-use Rattle.std.proofs.Common.{◌≡◌, ℕ, ◌+◌, ◌≤◌, List, ◌++◌, length, take, ap, ◌∙◌, append_assoc, arith, rules}
-use borrow.Rule.Slice.PartMut.{put_mid}
-use Rattle.std.proofs.lemmas.List.{length-take-le, length-append}
-use Rattle.std.proofs.lemmas.Slice.{take-put_mid, overwrites}
+-- What a page holds after some bytes were put on it behind others. Assumes nothing.
+use Rattle.std.proofs.Common.{◌≡◌, ℕ, ◌+◌, ◌≤◌, List, ◌++◌, length, ap, ◌∙◌, append_assoc, arith}
+use Rattle.std.proofs.lemmas.List.{length-append}
 use Rattle.swimlog.specs.Rooms.{page_length}
 use Rattle.swimlog.specs.Pages.{page_bytes, Room}
 use Rattle.swimlog.specs.declared.page.Page.{Page}
-
-pub page_bytes_length : (p : Page) → length (page_bytes p) ≡ p.len
-page_bytes_length p = length-take-le p.len p.bytes (omega (arith, p.sized, p.held))
-
-module _ (p : Page) (more : List ℕ) (room : Room p more) where
-  pub room_left : p.len + length more ≤ page_length
-  room_left = omega (arith, page_bytes_length p)
-
-  module _ (k : ℕ) (ys : List ℕ) (all : length more ≡ k) (same : ys ≡ more) where
-    pub still_sized : length (put_mid p.len k p.bytes ys) ≡ page_length
-    still_sized =
-        let left = room_left in
-        let sized = p.sized in
-        let long = ap length same in
-        search (rules, overwrites)
-
-    pub holds_more : (end : ℕ) → end ≡ p.len + k → take end (put_mid p.len k p.bytes ys) ≡ page_bytes p ++ more
-    holds_more end here =
-        let left = room_left in
-        let long = ap length same in
-        take-put_mid p.len k p.bytes ys end (omega arith) (omega (arith, p.sized)) ∙ ap (λ l. page_bytes p ++ l) same
 
 -- ---- bytes in two parts, the second behind the first
 

@@ -7,4 +7,3 @@ pub mod Fillings
 pub mod Report
 pub mod Rooms
 pub mod Pages
-pub mod Signs

@@ -1,11 +1,11 @@
 -- The bytes on a page, and the room that is left on it. Assumes nothing.
-use Rattle.std.specs.Prelude.{ℕ, ◌+◌, ◌≤◌, List, length, take}
+use Rattle.std.specs.Prelude.{ℕ, ◌+◌, ◌≤◌, List, length}
 use Rattle.swimlog.specs.Rooms.{page_length}
 use Rattle.swimlog.specs.declared.page.Page.{Page}
 
 -- what was put on a page, from its start
 abbrev pub page_bytes : Page → List ℕ
-page_bytes p = take p.len p.bytes
+page_bytes p = p.bytes.items
 
 -- there is room for so many bytes after that
 abbrev pub Spare : Page → (count : ℕ) → Type 0

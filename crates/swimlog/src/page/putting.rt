@@ -1,8 +1,10 @@
-// Making a page, and putting bytes on it.
+// Making a page, and putting bytes and numbers on it.
 ghost use Rattle.std.specs.Prelude.{◌≡◌, [], ◌∷◌, ◌++◌};
 ghost use Rattle.swimlog.specs.Pages.{page_bytes, Room};
 
-use super::{PAGE_LENGTH, Page};
+use super::Page;
+use arrayvec::ArrayVec;
+use itoa::{Buffer, Integer};
 
 impl Page {
     // A page with nothing on it.
@@ -10,8 +12,7 @@ impl Page {
         ensures { page_bytes result ≡ [] }
     {
         Page {
-            bytes: [0; PAGE_LENGTH],
-            len: 0,
+            bytes: ArrayVec::new(),
         }
     }
 
@@ -19,23 +20,28 @@ impl Page {
     pub fn bytes(&self) -> &[u8]
         ensures { result.now ≡ page_bytes self.now }
     {
-        &self.bytes[0..self.len]
+        self.bytes.as_slice()
     }
 
     pub(crate) fn put_byte(&mut self, byte: u8)
         requires { Room self.old (byte ∷ []) }
         ensures { page_bytes self.new ≡ page_bytes self.old ++ (byte ∷ []) }
     {
-        self.bytes[self.len] = byte;
-        self.len += 1;
+        self.bytes.push(byte);
     }
 
     pub(crate) fn put(&mut self, bytes: &[u8])
         requires { Room self.old bytes.now }
         ensures { page_bytes self.new ≡ page_bytes self.old ++ bytes.now }
     {
-        let end = self.len + bytes.len();
-        self.bytes[self.len..end].copy_from_slice(bytes);
-        self.len = end;
+        self.bytes.try_extend_from_slice(bytes).unwrap();
+    }
+
+    // A number in decimal.
+    pub(crate) fn put_number<I: Integer>(&mut self, n: I)
+        requires { Room self.old (I.text n) }
+        ensures { page_bytes self.new ≡ page_bytes self.old ++ I.text n }
+    {
+        self.put(Buffer::new().format(n).as_bytes());
     }
 }

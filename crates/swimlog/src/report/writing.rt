@@ -13,43 +13,49 @@ use crate::page::Page;
 use crate::place::gate_cell;
 use crate::sizes::Sizes;
 use contractor::{Fault, Mark};
+use itoa::{Buffer, Integer};
 use std::alloc::AllocError;
 use tube::{MAX_CELLS, Row};
 
-fn put_signed_field(page: &mut Page, n: i32)
-    requires { Room page.old (space ∷ signed_decimal n) }
-    ensures { page_bytes page.new ≡ page_bytes page.old ++ (space ∷ signed_decimal n) }
+fn put_field<I: Integer>(page: &mut Page, n: I)
+    requires { Room page.old (space ∷ I.text n) }
+    ensures { page_bytes page.new ≡ page_bytes page.old ++ (space ∷ I.text n) }
 {
     page.put_byte(b' ');
-    page.put_signed(n);
+    page.put_number(n);
 }
 
-fn put_ends(page: &mut Page, row: Row)
-    requires { Room page.old (spaced (signed_decimal row.low ∷ signed_decimal row.high ∷ [])) }
-    ensures { page_bytes page.new ≡ page_bytes page.old ++ spaced (signed_decimal row.low ∷ signed_decimal row.high ∷ []) }
+fn put_fields<I: Integer>(page: &mut Page, fields: &[I])
+    requires { Room page.old (spaced (map I.text fields.now)) }
+    ensures { page_bytes page.new ≡ page_bytes page.old ++ spaced (map I.text fields.now) }
 {
-    put_signed_field(page, row.low);
-    put_signed_field(page, row.high);
+    for field in fields {
+        put_field(page, *field);
+    }
 }
 
-// The ends of a gate's x, then of its y.
-fn put_place(page: &mut Page, x: Row, y: Row)
-    requires { Room page.old (spaced (place_fields x y)) }
-    ensures { page_bytes page.new ≡ page_bytes page.old ++ spaced (place_fields x y) }
+// A line of a word and numbers.
+fn put_line<I: Integer>(page: &mut Page, word: &[u8], fields: &[I])
+    requires { Room page.old (line word.now (map I.text fields.now)) }
+    ensures { page_bytes page.new ≡ page_bytes page.old ++ line word.now (map I.text fields.now) }
 {
-    put_ends(page, x);
-    put_ends(page, y);
+    page.put(word);
+    put_fields(page, fields);
+    page.put_byte(b'\n');
 }
 
+// A gate, then the ends of its x and of its y.
 fn put_place_line(page: &mut Page, gate: u16, x: Row, y: Row)
     requires gate { gate < most_gates }
     requires room { Spare page.old gate_line_length }
     ensures line { page_bytes page.new ≡ page_bytes page.old ++ line (decimal gate) (place_fields x y) }
     ensures short { length (page_bytes page.new) ≤ length (page_bytes page.old) + gate_line_length }
 {
-    page.put_number(gate as u64);
-    put_place(page, x, y);
-    page.put_byte(b'\n');
+    put_line(
+        page,
+        Buffer::new().format(gate).as_bytes(),
+        &[x.low, x.high, y.low, y.high],
+    );
 }
 
 fn put_gate(page: &mut Page, sizes: Sizes, tube: &[Row; MAX_CELLS], gate: u16)
@@ -97,33 +103,6 @@ fn put_kept(page: &mut Page, calls: u64, mark: Mark, sizes: Sizes, tube: &[Row; 
 {
     put_kept_line(page, calls, mark);
     put_gates(page, sizes, tube);
-}
-
-fn put_field(page: &mut Page, n: u64)
-    requires { Room page.old (space ∷ decimal n) }
-    ensures { page_bytes page.new ≡ page_bytes page.old ++ (space ∷ decimal n) }
-{
-    page.put_byte(b' ');
-    page.put_number(n);
-}
-
-fn put_fields(page: &mut Page, fields: &[u64])
-    requires { Room page.old (spaced (map decimal fields.now)) }
-    ensures { page_bytes page.new ≡ page_bytes page.old ++ spaced (map decimal fields.now) }
-{
-    for field in fields {
-        put_field(page, *field);
-    }
-}
-
-// A line of a word and numbers.
-fn put_line(page: &mut Page, word: &[u8], fields: &[u64])
-    requires { Room page.old (line word.now (map decimal fields.now)) }
-    ensures { page_bytes page.new ≡ page_bytes page.old ++ line word.now (map decimal fields.now) }
-{
-    page.put(word);
-    put_fields(page, fields);
-    page.put_byte(b'\n');
 }
 
 fn put_empty(page: &mut Page, fault: Fault, calls: u64)

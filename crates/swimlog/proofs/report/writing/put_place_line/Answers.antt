@@ -1,9 +1,9 @@
-use Rattle.std.proofs.Common.{◌≡◌, [], ◌∷◌, ◌++◌, length, decimal, ap, arith, rules}
+use Rattle.std.proofs.Common.{◌≡◌, ◌++◌, length, decimal, ap, ◌∙◌, arith, w32, SFits, rules}
+use Rattle.std.proofs.lemmas.Int.{to_z-of_z}
 use Rattle.std.proofs.lemmas.List.{length-append}
-use Rattle.swimlog.specs.Pages.{page_bytes, Room}
-use Rattle.swimlog.specs.Report.{line_end, spaced, line, place_fields}
+use Rattle.swimlog.specs.Pages.{page_bytes}
+use Rattle.swimlog.specs.Report.{line, place_fields}
 use Rattle.swimlog.proofs.Lengths.{Small, gate_line_short, gate_line_room}
-use Rattle.swimlog.proofs.Paging.{room_first, room_middle, room_last, put_all}
 use Rattle.swimlog.proofs.report.writing.put_place_line.Goals as goal
 use Rattle.swimlog.proofs.report.writing.put_place_line.Goals.{Start}
 
@@ -14,28 +14,27 @@ x_small c = record { low = search rules; high = search rules }
 y_small : (c : Start) → Small c.args.y
 y_small c = record { low = search rules; high = search rules }
 
-room : (c : Start) → Room c.args.page.now (line (decimal c.args.gate) (place_fields c.args.x c.args.y))
-room c = gate_line_room c.args.page.now c.args.gate c.args.x c.args.y c.requires.gate (x_small c) (y_small c) c.requires.room
+pub put_line-requires : goal.put_line-requires
+put_line-requires c =
+    let x = x_small (goal.at.put_line-requires c).Start in
+    let y = y_small (goal.at.put_line-requires c).Start in
+    let x_low : SFits w32 c.args.x.low = x.low in
+    let x_high : SFits w32 c.args.x.high = x.high in
+    let y_low : SFits w32 c.args.y.low = y.low in
+    let y_high : SFits w32 c.args.y.high = y.high in
+    let gate : c.as_bytes.result.now ≡ decimal c.args.gate = c.as_bytes.ensures.value ∙ c.format.ensures.text in
+    simp to_z-of_z (rw gate (gate_line_room c.args.page.now c.args.gate c.args.x c.args.y c.requires.gate x y c.requires.room))
 
-pub put_number-requires : goal.put_number-requires
-put_number-requires c = room_first c.args.page.now (decimal c.args.gate) (spaced (place_fields c.args.x c.args.y) ++ (line_end ∷ [])) (room (goal.at.put_number-requires c).Start)
-
-pub put_place-requires : goal.put_place-requires
-put_place-requires c = room_middle c.args.page.now (decimal c.args.gate) (spaced (place_fields c.args.x c.args.y)) (line_end ∷ []) (room (goal.at.put_place-requires c).Start) c.put_number.new.self c.put_number.ensures
-
-pub put_byte-requires : goal.put_byte-requires
-put_byte-requires c =
-    room_last c.args.page.now (decimal c.args.gate) (spaced (place_fields c.args.x c.args.y)) (line_end ∷ []) (room (goal.at.put_byte-requires c).Start) c.put_number.new.self c.put_number.ensures c.put_place.new.page c.put_place.ensures
-
-pub returns : goal.returns
-returns c =
+pub returns-clause-short : goal.returns-clause-short
+returns-clause-short c =
+    let x = x_small (goal.at.returns-clause-short c).Start in
+    let y = y_small (goal.at.returns-clause-short c).Start in
+    let x_low : SFits w32 c.args.x.low = x.low in
+    let x_high : SFits w32 c.args.x.high = x.high in
+    let y_low : SFits w32 c.args.y.low = y.low in
+    let y_high : SFits w32 c.args.y.high = y.high in
     let before = page_bytes c.args.page.now in
     let gate_line = line (decimal c.args.gate) (place_fields c.args.x c.args.y) in
-    let put : page_bytes c.put_byte.new.self ≡ before ++ gate_line =
-    put_all before (page_bytes c.put_number.new.self) (page_bytes c.put_place.new.page) (page_bytes c.put_byte.new.self)
-    (decimal c.args.gate) (spaced (place_fields c.args.x c.args.y)) (line_end ∷ []) c.put_number.ensures c.put_place.ensures c.put_byte.ensures
-    in
-    record {
-      line = put;
-      short = omega (arith, ap length put, length-append before gate_line, gate_line_short c.args.gate c.args.x c.args.y c.requires.gate (x_small (goal.at.returns c).Start) (y_small (goal.at.returns c).Start));
-    }
+    let gate : c.as_bytes.result.now ≡ decimal c.args.gate = c.as_bytes.ensures.value ∙ c.format.ensures.text in
+    let put : page_bytes c.put_line.new.page ≡ before ++ gate_line = (simp to_z-of_z at c.put_line.ensures) ∙ rw gate in
+    omega (arith, ap length put, length-append before gate_line, gate_line_short c.args.gate c.args.x c.args.y c.requires.gate x y)
