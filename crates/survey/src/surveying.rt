@@ -29,10 +29,7 @@ fn rounds(count: u32) -> Rounds
     requires { is_count count ≡ true }
     ensures { count_of result ≡ count }
 {
-    match Rounds::new(count) {
-        Ok(rounds) => rounds,
-        Err(_) => unreachable(),
-    }
+    Rounds::new(count).unwrap()
 }
 
 // A table with as many rows as any tube, all as wide as can be.

@@ -1,6 +1,7 @@
 -- From the parts of a check to the fault of the whole log. Assumes nothing.
-use Rattle.std.proofs.Common.{◌≡◌, ℕ, ◌<◌, Bool, true, false, cond, not, eqb, List, length, IfErr, Some, None, Ok, Err, Option, Result, sym, refl, ap, ◌∙◌, subst, arith}
+use Rattle.std.proofs.Common.{◌≡◌, ℕ, ◌<◌, Bool, true, false, cond, not, eqb, List, length, IfErr, IsOk, Some, None, Ok, Err, Option, Result, sym, refl, ap, ◌∙◌, subst, arith}
 use Rattle.std.proofs.lemmas.Bool.Decides.{nat_tests}
+use Rattle.constraint.specs.declared.constraint.Constraint.{Constraint}
 use Rattle.swimlog.specs.Format.{gates_of, records_of, log_length}
 use Rattle.swimlog.specs.Logs.{record_fault, earliest_fault, has_sizes, log_fault, record_of, record_in, in_record, Sized, Checked, Blames}
 use Rattle.swimlog.specs.Records.{Said, Reads}
@@ -59,16 +60,17 @@ tests_of : (bytes : List ℕ) → log_fault bytes ≡ None → (has_sizes bytes 
 unfolding log_fault
 tests_of bytes none = past_tests (has_sizes bytes) (eqb (length bytes) (log_length (records_of bytes))) BadSizes BadLength (earliest_fault bytes (gates_of bytes) (records_of bytes) (records_of bytes)) none
 
-never_bad : (i : ℕ) (o : Result Said RecordFault) (e : RecordFault) → in_record i o ≡ None → Reads o (Err e) → ⊥
-never_bad i (Ok said) e none bad = bad
-never_bad i (Err f) e none bad = let z : ◌≡◌ {A = ℕ} 0 1 = cc in omega arith
+never_bad : (i : ℕ) (o : Result Said RecordFault) (r : Result Constraint RecordFault) → in_record i o ≡ None → Reads o r → IsOk r
+never_bad i o (Ok k) none read = refl
+never_bad i (Ok said) (Err e) none read = absurd read
+never_bad i (Err f) (Err e) none read = let z : ◌≡◌ {A = ℕ} 0 1 = cc in absurd (omega arith)
 
 module _ (bytes : List ℕ) (sizes : Sizes) (sound : log_fault bytes ≡ None) (same : Sized bytes sizes) (i : ℕ) (below : i < sizes.records) where
-  pub never_refused : (e : RecordFault) → Reads (record_in bytes sizes.gates sizes.records i) (Err e) → ⊥
-  never_refused e bad =
+  pub always_read : (r : Result Constraint RecordFault) → Reads (record_in bytes sizes.gates sizes.records i) r → IsOk r
+  always_read r read =
       let k = tests_of bytes sound in
       let long : eqb (length bytes) (log_length (records_of bytes)) ≡ true = k.1 in
       let whole : length bytes ≡ log_length sizes.records = grind (arith, nat_tests) in
       let none = none_earlier bytes sizes.gates sizes.records sizes.records i (rw (same.same_gates, same.same_records) k.2) below in
-      never_bad i (record_of bytes sizes.gates sizes.records i) e none
-      (subst (λ said. Reads said (Err e)) (whole_record bytes sizes.gates sizes.records i (omega arith)) bad)
+      never_bad i (record_of bytes sizes.gates sizes.records i) r none
+      (subst (λ said. Reads said r) (whole_record bytes sizes.gates sizes.records i (omega arith)) read)

@@ -1,7 +1,6 @@
 -- What a page holds after some bytes were put on it behind others. Assumes nothing.
-use Rattle.std.proofs.Common.{◌≡◌, ℕ, ◌+◌, ◌≤◌, List, ◌++◌, length, ap, ◌∙◌, append_assoc, arith}
+use Rattle.std.proofs.Common.{◌≡◌, ℕ, List, ◌++◌, length, ap, ◌∙◌, append_assoc, arith}
 use Rattle.std.proofs.lemmas.List.{length-append}
-use Rattle.swimlog.specs.Rooms.{page_length}
 use Rattle.swimlog.specs.Pages.{page_bytes, Room}
 use Rattle.swimlog.specs.declared.page.Page.{Page}
 

@@ -18,10 +18,7 @@ fn add(net: &mut Net, constraint: Constraint)
     requires { length (records net.old) < most_records }
     ensures { Grown (said_of constraint ∷ []) net.old net.new }
 {
-    match net.push(constraint) {
-        Ok(()) => {}
-        Err(_) => unreachable(),
-    }
+    net.push(constraint).unwrap();
 }
 
 // The steps of all slices on one axis.

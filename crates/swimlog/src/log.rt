@@ -17,20 +17,14 @@ fn read_sizes(bytes: &[u8]) -> Result<Sizes, LogFault>
 {
     let gates = two_bytes(bytes, 0)?;
     let records = two_bytes(bytes, 2)?;
-    match Sizes::new(gates, records) {
-        Some(sizes) => Ok(sizes),
-        None => Err(LogFault::BadSizes),
-    }
+    Sizes::new(gates, records).ok_or(LogFault::BadSizes)
 }
 
 // What reading a record answered, with the record's place in the log beside its fault.
 fn numbered(index: u16, read: Result<Constraint, RecordFault>) -> Result<Constraint, BadRecord>
     ensures { result ≡ numbered index read }
 {
-    match read {
-        Ok(constraint) => Ok(constraint),
-        Err(fault) => Err(BadRecord { index, fault }),
-    }
+    read.map_err(|fault| BadRecord { index, fault })
 }
 
 fn check_record(bytes: &[u8], sizes: Sizes, index: u16) -> Result<(), LogFault>
@@ -64,8 +58,5 @@ pub(crate) fn constraint_at(bytes: &[u8], sizes: Sizes, index: u16) -> Constrain
     requires within { index < sizes.records }
     ensures { Reads (record_of bytes.now sizes.gates sizes.records index) (Ok result) }
 {
-    match read_record(bytes, sizes, index) {
-        Ok(constraint) => constraint,
-        Err(_) => unreachable(),
-    }
+    read_record(bytes, sizes, index).unwrap()
 }

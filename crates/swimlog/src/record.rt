@@ -5,7 +5,7 @@ ghost use Rattle.swimlog.specs.Records.{bounds, ranges, says, made, record_says,
 
 use crate::fault::{FieldFault, RecordFault};
 use crate::field::{Body, Head, read_body, read_head};
-use crate::kind::{Axis, Kind, kind_of};
+use crate::kind::{Axis, Kind};
 use crate::layout::{body_start, head_start};
 use crate::place::{gate_cell, is_placed, step_cell};
 use crate::sizes::Sizes;
@@ -57,9 +57,7 @@ fn constraint_of(
 ) -> Result<Constraint, RecordFault>
     ensures { Reads (record_says sizes.gates number head body) result }
 {
-    let Some(kind) = kind_of(head.kind, head.axis) else {
-        return Err(RecordFault::UnknownKind);
-    };
+    let kind = Kind::try_from(head)?;
     if !is_placed(sizes, kind, head, body) {
         return Err(RecordFault::BadPlace);
     }
