@@ -1,5 +1,6 @@
 pub mod Limits
 pub mod Faults
+pub mod Words
 pub mod Format
 pub mod Records
 pub mod Logs
