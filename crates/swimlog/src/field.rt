@@ -1,4 +1,4 @@
-// The fields of a swim log: numbers with their least byte first, and the head and the body that they make up.
+// The fields of a swim log: numbers with their least byte first, and the records that they make up.
 ghost use Rattle.std.specs.Prelude.{◌≡◌, ◌+◌, take, drop};
 ghost use Rattle.swimlog.specs.Format.{byte_at, two_bytes_at, number_at, head_length, body_length, head_at, body_at, field};
 
@@ -22,6 +22,13 @@ pub struct Body {
     pub b3: i32,
     pub b4: i32,
     pub b5: i32,
+}
+
+// A record as it stands in a log, its head among the heads and its body among the bodies.
+#[derive(Clone, Copy, Debug, PartialEq)]
+pub struct Record {
+    pub head: Head,
+    pub body: Body,
 }
 
 // The next so many bytes from a place on.
