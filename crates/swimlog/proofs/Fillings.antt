@@ -6,10 +6,12 @@ use Rattle.constraint.specs.declared.constraint.Constraint.TheVariants.{Bound as
 use Rattle.net.specs.Records.{records}
 use Rattle.net.specs.declared.net.Net.{Net}
 use Rattle.swimlog.specs.Fillings.{said_of, sayings, axis_steps, to_first, to_second, added, Grown}
+use Rattle.swimlog.specs.Format.{gates_of, records_of}
 use Rattle.swimlog.specs.Logs.{record_of}
 use Rattle.swimlog.specs.Records.{Said, bounds, steps, ranges, slice_step, Is, Reads}
 use Rattle.swimlog.specs.declared.fault.RecordFault.{RecordFault}
 use Rattle.swimlog.specs.declared.kind.Axis.{Axis}
+use Rattle.swimlog.specs.declared.log.Log.{Log}
 
 -- a constraint that is what was said says it
 pub is_said : (s : Said) (k : Constraint) → Is s k → said_of k ≡ s
@@ -56,6 +58,13 @@ module _ (add : Result Said RecordFault → List Said) (bytes : List ℕ) (gates
   added_more i k is =
       let same : add (Ok (said_of k)) ≡ add (record_of bytes gates records i) = ap add (sym (read_says (record_of bytes gates records i) k is)) in
       rw (add-one, same)
+
+-- what the records of a log add, by the bytes that it holds
+added_as : (add : Result Said RecordFault → List Said) (held bytes : List ℕ) (gates records : ℕ) → held ≡ bytes → gates ≡ gates_of held → records ≡ records_of held → added add held gates records records ≡ added add bytes (gates_of bytes) (records_of bytes) (records_of bytes)
+added_as add held bytes gates records same same_gates same_records = rw (same_gates, same_records, same)
+
+pub added_same : (add : Result Said RecordFault → List Said) (log : Log) (bytes : List ℕ) → log.bytes.now ≡ bytes → added add log.bytes.now log.sizes.gates log.sizes.records log.sizes.records ≡ added add bytes (gates_of bytes) (records_of bytes) (records_of bytes)
+added_same add log bytes same = added_as add log.bytes.now bytes log.sizes.gates log.sizes.records same log.sized.same_gates log.sized.same_records
 
 -- a record adds at most one to either net
 pub to_first_few : (o : Result Said RecordFault) → length (to_first o) ≤ 1
