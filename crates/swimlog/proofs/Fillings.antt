@@ -1,6 +1,6 @@
 -- One more record in a net, and what the net then says. Assumes nothing.
-use Rattle.std.proofs.Common.{◌≡◌, ℕ, zero, suc, ◌+◌, ◌≤◌, List, [], ◌∷◌, ◌++◌, map, length, Ok, Err, Result, sym, refl, ap, ◌∙◌, subst, append_assoc, add-one, arith}
-use Rattle.std.proofs.lemmas.List.{map_push, length-map, length-append, length_push}
+use Rattle.std.proofs.Common.{◌≡◌, ℕ, zero, suc, ◌+◌, ◌≤◌, List, [], ◌∷◌, ◌++◌, length, Ok, Err, Result, sym, refl, ap, ◌∙◌, subst, append_assoc, add-one, arith}
+use Rattle.std.proofs.lemmas.List.{length-map, length-append, length_push}
 use Rattle.constraint.specs.declared.constraint.Constraint.{Constraint}
 use Rattle.constraint.specs.declared.constraint.Constraint.TheVariants.{Bound as of_bound, Step as of_step, Range as of_range}
 use Rattle.net.specs.Records.{records}
@@ -78,6 +78,3 @@ to_second_few (Ok (bounds number cell low high)) = omega arith
 to_second_few (Ok (steps number from by to)) = omega arith
 to_second_few (Ok (ranges number x y beacon_x beacon_y nearest farthest)) = omega arith
 to_second_few (Err e) = omega arith
-
-pub pushed_says : (n n' : Net) (k : Constraint) → records n' ≡ records n ++ k ∷ [] → sayings n' ≡ sayings n ++ said_of k ∷ []
-pushed_says n n' k pushed = ap (map said_of) pushed ∙ map_push said_of (records n) k

@@ -3,7 +3,6 @@ pub mod Sayings
 pub mod Readings
 pub mod Earliest
 pub mod Checks
-pub mod Paging
 pub mod Puts
 pub mod Lengths
 pub mod Blames

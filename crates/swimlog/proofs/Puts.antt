@@ -1,13 +1,18 @@
--- Bytes put on a page, some after others. Assumes nothing.
-use Rattle.std.proofs.Common.{◌≡◌, ℕ, ◌+◌, ◌<◌, List, [], ◌∷◌, ◌++◌, map, length, get_or, take, drop, codes, sym, refl, ap, ◌∙◌, subst, append_assoc, append-nil, add-one}
-use Rattle.std.proofs.lemmas.List.{take_more, map-append, take-append-drop}
-use Rattle.tube.specs.declared.row.Row.{Row}
+-- Fields put on a page, one after the other. Assumes nothing.
+use Rattle.std.proofs.Common.{◌≡◌, ℕ, ◌+◌, ◌<◌, List, [], ◌∷◌, ◌++◌, map, length, get_or, take, drop, sym, refl, ap, ◌∙◌, subst, append_assoc, append-nil, arith}
+use Rattle.std.proofs.lemmas.List.{take_more, map-append, length-append, take-append-drop}
 use Rattle.swimlog.specs.Pages.{page_bytes, Room}
-use Rattle.swimlog.specs.Report.{space, line_end, spaced, line, gate_line, gate_lines}
+use Rattle.swimlog.specs.Report.{space, spaced}
 use Rattle.swimlog.specs.declared.page.Page.{Page}
-use Rattle.swimlog.proofs.Paging.{room_first, room_second, put_both}
 
--- ---- fields
+-- the second of two parts has room behind the first
+module _ (p : Page) (a b : List ℕ) (room : Room p (a ++ b)) where
+  room_first : Room p a
+  room_first = omega (arith, length-append a b)
+
+  module _ (q : Page) (first : page_bytes q ≡ page_bytes p ++ a) where
+    room_second : Room q b
+    room_second = omega (arith, length-append a b, ap length first, length-append (page_bytes p) a)
 
 spaced_append : (xs ys : List (List ℕ)) → spaced (xs ++ ys) ≡ spaced xs ++ spaced ys
 spaced_append [] ys = refl
@@ -40,16 +45,5 @@ module _ {X : Type 0} (text : X → List ℕ) (fields : List X) (i : ℕ) (x : X
 
     pub field_put : (r : Page) → page_bytes r ≡ page_bytes q ++ (space ∷ text x) → page_bytes r ≡ page_bytes p ++ spaced (map text (take (i + 1) fields))
     field_put r put =
-        put_both (page_bytes p) (page_bytes q) (page_bytes r) (spaced (map text (take i fields))) (space ∷ text x) front put
+        put ∙ ap (λ l. l ++ (space ∷ text x)) front ∙ append_assoc (page_bytes p) (spaced (map text (take i fields))) (space ∷ text x)
         ∙ ap (λ l. page_bytes p ++ l) (sym fields_more)
-
--- ---- lines
-
-pub gate_lines_more : (gates : ℕ) (tube : List Row) (gate : ℕ) → gate_lines gates tube (gate + 1) ≡ gate_lines gates tube gate ++ gate_line gates tube gate
-gate_lines_more gates tube gate = ap (gate_lines gates tube) (add-one gate)
-
--- the parts that are put, as fields of a line
-pub kept_line : (digits mark : List ℕ) → codes "kept " ++ (digits ++ (space ∷ (mark ++ (line_end ∷ [])))) ≡ line (codes "kept") (digits ∷ mark ∷ [])
-kept_line digits mark =
-    ap (λ l. codes "kept " ++ l)
-    (ap (λ l. digits ++ (space ∷ (l ++ (line_end ∷ [])))) (sym (append-nil mark)) ∙ sym (append_assoc digits (space ∷ (mark ++ [])) (line_end ∷ [])))
