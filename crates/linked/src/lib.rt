@@ -2,7 +2,7 @@
 #![tactic(auto)]
 
 ghost use Rattle.std.specs.Prelude.{◌≡◌, ◌≤◌, length};
-ghost use Rattle.survey.specs.Rooms.{page_length};
+ghost use Rattle.swimlog.specs.Rooms.{page_length};
 ghost use Rattle.survey.specs.Surveys.{printed};
 ghost use Rattle.linked.specs.Buffers.{filled};
 

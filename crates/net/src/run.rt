@@ -1,18 +1,18 @@
 // The run of a net: its records are used until none waits, one empties, or the allowance is used.
-ghost use Rattle.std.specs.Prelude.{◌≡◌, ◌+◌, ◌*◌, ◌^◌, ◌<◌, ◌≤◌, true, map, length};
+ghost use Rattle.std.specs.Prelude.{◌≡◌, ◌≤◌, true, map, length};
 ghost use Rattle.tube.specs.Tubes.{is_tube, cell};
 ghost use Rattle.contractor.specs.Contractors.{Accepted};
-ghost use Rattle.contractor.specs.Layers.{passed_up, leaving};
+ghost use Rattle.contractor.specs.Layers.{leaving};
 ghost use Rattle.constraint.specs.Kinds.{constraint_value};
 ghost use Rattle.net.specs.Links.{Three};
-ghost use Rattle.net.specs.Nets.{greatest_need, if_other, net_digit, positions, spun, most_records};
+ghost use Rattle.net.specs.Nets.{greatest_need, if_other, positions, spun, most_records};
 ghost use Rattle.net.specs.Records.{parts};
 ghost use Rattle.net.specs.Uses.{UseOf};
 
 use crate::chains::Chains;
 use crate::waiting::Waiting;
 use constraint::Constraint;
-use contractor::{Answer, Contractor, Fault, Verdict};
+use contractor::{Answer, Contractor, Verdict};
 use tube::Row;
 
 // The digit that a fault's path gets on its way up.
@@ -34,17 +34,6 @@ pub(crate) fn greatest_need(records: &[Constraint]) -> usize
         need = constraint.need().max(need);
     }
     need
-}
-
-// The fault as a net passes it up.
-fn passed_up(fault: Fault) -> Fault
-    requires { fault.path * 8 + net_digit < 2 ^ 64 }
-    ensures { result ≡ passed_up net_digit fault }
-{
-    Fault {
-        path: fault.path * 8 + DIGIT,
-        ..fault
-    }
 }
 
 // The rows of three cells.
@@ -102,7 +91,7 @@ pub(crate) fn run(records: &[Constraint], allowance: u64, tube: &mut [Row]) -> A
         calls += 1;
         match used.verdict {
             Verdict::Kept(_) => chains.wake(&mut waiting, used.narrower),
-            Verdict::Empty(fault) => return Answer::empty(passed_up(fault), calls),
+            Verdict::Empty(fault) => return Answer::empty(fault.passed_up(DIGIT), calls),
         }
     }
     Answer::kept(waiting.mark(), calls)

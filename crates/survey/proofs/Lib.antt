@@ -1,7 +1,3 @@
-pub mod Paging
-pub mod Numbers
-pub mod Puts
-pub mod Lengths
 pub mod Tracking
 pub mod FirstTubes
 pub mod Known

@@ -1,14 +1,12 @@
 // From the bytes of a log to the bytes that are printed.
 ghost use Rattle.std.specs.Prelude.{◌≡◌, ℕ, List, take};
-ghost use Rattle.survey.specs.Pages.{page_bytes};
+ghost use Rattle.swimlog.specs.Pages.{page_bytes};
 ghost use Rattle.swimlog.specs.Report.{Written};
 ghost use Rattle.survey.specs.Surveys.{printed};
 
-use crate::page::Page;
-use crate::report::{report_page, write_report};
 use crate::surveying::survey;
 use std::alloc::AllocError;
-use swimlog::MAX_LENGTH;
+use swimlog::{MAX_LENGTH, Page, report_page, write_report};
 
 // How many bytes of an input are enough: what is printed for the first so many is what is printed for all of them.
 pub fn input_limit() -> usize

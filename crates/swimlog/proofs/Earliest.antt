@@ -12,9 +12,6 @@ module _ (bytes : List ℕ) (gates records : ℕ) where
   at_same : (m n : ℕ) (o : Option LogFault) → m ≡ n → earliest_fault bytes gates records m ≡ o → earliest_fault bytes gates records n ≡ o
   at_same m n o same e = subst (λ k. earliest_fault bytes gates records k ≡ o) same e
 
-  pub earliest_more : (i : ℕ) → earliest_fault bytes gates records i ≡ None → record_fault bytes gates records i ≡ None → earliest_fault bytes gates records (i + 1) ≡ None
-  earliest_more i none here = at_same (suc i) (i + 1) None (omega arith) (ap (λ o. option_or o (record_fault bytes gates records i)) none ∙ here)
-
   -- once found, it stays the earliest, however many more are looked at
   stays : (i more : ℕ) (e : LogFault) → earliest_fault bytes gates records i ≡ Some e → earliest_fault bytes gates records (more + i) ≡ Some e
   stays i zero e found = at_same i (zero + i) (Some e) (omega arith) found

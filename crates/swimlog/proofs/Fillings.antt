@@ -1,15 +1,17 @@
 -- One more record in a net, and what the net then says. Assumes nothing.
-use Rattle.std.proofs.Common.{◌≡◌, ℕ, zero, suc, ◌+◌, ◌≤◌, List, [], ◌∷◌, ◌++◌, map, length, Ok, Err, Result, sym, refl, ap, ◌∙◌, subst, append_assoc, add-one, arith}
-use Rattle.std.proofs.lemmas.List.{map_push, length-map, length-append, length_push}
+use Rattle.std.proofs.Common.{◌≡◌, ℕ, zero, suc, ◌+◌, ◌≤◌, List, [], ◌∷◌, ◌++◌, length, Ok, Err, Result, sym, refl, ap, ◌∙◌, subst, append_assoc, add-one, arith}
+use Rattle.std.proofs.lemmas.List.{length-map, length-append, length_push}
 use Rattle.constraint.specs.declared.constraint.Constraint.{Constraint}
 use Rattle.constraint.specs.declared.constraint.Constraint.TheVariants.{Bound as of_bound, Step as of_step, Range as of_range}
 use Rattle.net.specs.Records.{records}
 use Rattle.net.specs.declared.net.Net.{Net}
 use Rattle.swimlog.specs.Fillings.{said_of, sayings, axis_steps, to_first, to_second, added, Grown}
+use Rattle.swimlog.specs.Format.{gates_of, records_of}
 use Rattle.swimlog.specs.Logs.{record_of}
 use Rattle.swimlog.specs.Records.{Said, bounds, steps, ranges, slice_step, Is, Reads}
 use Rattle.swimlog.specs.declared.fault.RecordFault.{RecordFault}
 use Rattle.swimlog.specs.declared.kind.Axis.{Axis}
+use Rattle.swimlog.specs.declared.log.Log.{Log}
 
 -- a constraint that is what was said says it
 pub is_said : (s : Said) (k : Constraint) → Is s k → said_of k ≡ s
@@ -57,6 +59,13 @@ module _ (add : Result Said RecordFault → List Said) (bytes : List ℕ) (gates
       let same : add (Ok (said_of k)) ≡ add (record_of bytes gates records i) = ap add (sym (read_says (record_of bytes gates records i) k is)) in
       rw (add-one, same)
 
+-- what the records of a log add, by the bytes that it holds
+added_as : (add : Result Said RecordFault → List Said) (held bytes : List ℕ) (gates records : ℕ) → held ≡ bytes → gates ≡ gates_of held → records ≡ records_of held → added add held gates records records ≡ added add bytes (gates_of bytes) (records_of bytes) (records_of bytes)
+added_as add held bytes gates records same same_gates same_records = rw (same_gates, same_records, same)
+
+pub added_same : (add : Result Said RecordFault → List Said) (log : Log) (bytes : List ℕ) → log.bytes.now ≡ bytes → added add log.bytes.now log.sizes.gates log.sizes.records log.sizes.records ≡ added add bytes (gates_of bytes) (records_of bytes) (records_of bytes)
+added_same add log bytes same = added_as add log.bytes.now bytes log.sizes.gates log.sizes.records same log.sized.same_gates log.sized.same_records
+
 -- a record adds at most one to either net
 pub to_first_few : (o : Result Said RecordFault) → length (to_first o) ≤ 1
 to_first_few (Ok (bounds number cell low high)) = omega arith
@@ -69,6 +78,3 @@ to_second_few (Ok (bounds number cell low high)) = omega arith
 to_second_few (Ok (steps number from by to)) = omega arith
 to_second_few (Ok (ranges number x y beacon_x beacon_y nearest farthest)) = omega arith
 to_second_few (Err e) = omega arith
-
-pub pushed_says : (n n' : Net) (k : Constraint) → records n' ≡ records n ++ k ∷ [] → sayings n' ≡ sayings n ++ said_of k ∷ []
-pushed_says n n' k pushed = ap (map said_of) pushed ∙ map_push said_of (records n) k

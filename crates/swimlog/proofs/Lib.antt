@@ -4,5 +4,6 @@ pub mod Readings
 pub mod Earliest
 pub mod Checks
 pub mod Puts
+pub mod Lengths
 pub mod Blames
 pub mod Fillings

@@ -1,7 +1,10 @@
 pub mod Limits
 pub mod Faults
+pub mod Words
 pub mod Format
 pub mod Records
 pub mod Logs
 pub mod Fillings
 pub mod Report
+pub mod Rooms
+pub mod Pages

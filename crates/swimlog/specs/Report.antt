@@ -65,12 +65,7 @@ report_bytes (Refused fault) = refused_bytes fault
 
 -- ---- what writing answers
 
--- bytes were added to a buffer, or there was no memory and only some were
-abbrev pub Put : (before more : List ℕ) → Result (Unit {0}) AllocError → (after : List ℕ) → Type 0
-Put before more (Ok u) after = after ≡ before ++ more
-Put before more (Err e) after = (part : List ℕ) × (after ≡ before ++ part)
-
--- the same, and where there was no memory the buffer is as it was
+-- bytes were added to a buffer, or there was no memory and the buffer is as it was
 abbrev pub Written : (before more : List ℕ) → Result (Unit {0}) AllocError → (after : List ℕ) → Type 0
 Written before more (Ok u) after = after ≡ before ++ more
 Written before more (Err e) after = after ≡ before

@@ -6,6 +6,8 @@ ghost use Rattle.swimlog.specs.declared.fault.RecordFault.TheVariants.{CutOff, B
 
 use tube::MakingFault;
 
+mod words;
+
 #[derive(Clone, Copy, Debug, PartialEq)]
 pub enum FieldFault {
     // The bytes end before the field does.

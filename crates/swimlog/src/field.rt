@@ -1,5 +1,5 @@
-// The fields of a swim log: numbers with their least byte first, and the head and the body that they make up.
-ghost use Rattle.std.specs.Prelude.{◌≡◌, ◌+◌};
+// The fields of a swim log: numbers with their least byte first, and the records that they make up.
+ghost use Rattle.std.specs.Prelude.{◌≡◌, ◌+◌, take, drop};
 ghost use Rattle.swimlog.specs.Format.{byte_at, two_bytes_at, number_at, head_length, body_length, head_at, body_at, field};
 
 use crate::fault::FieldFault;
@@ -24,31 +24,37 @@ pub struct Body {
     pub b5: i32,
 }
 
+// A record as it stands in a log, its head among the heads and its body among the bodies.
+#[derive(Clone, Copy, Debug, PartialEq)]
+pub struct Record {
+    pub head: Head,
+    pub body: Body,
+}
+
+// The next so many bytes from a place on.
+fn bytes_at<const N: usize>(bytes: &[u8], at: usize) -> Result<[u8; N], FieldFault>
+    ensures { result ≡ field bytes.now (at + N) (take N (drop at bytes.now)) }
+{
+    let rest = bytes.get(at..).ok_or(FieldFault::CutOff)?;
+    rest.first_chunk().copied().ok_or(FieldFault::CutOff)
+}
+
 fn byte(bytes: &[u8], at: usize) -> Result<u8, FieldFault>
     ensures { result ≡ field bytes.now (at + 1) (byte_at bytes.now at) }
 {
-    match bytes.get(at) {
-        Some(value) => Ok(*value),
-        None => Err(FieldFault::CutOff),
-    }
+    bytes.get(at).copied().ok_or(FieldFault::CutOff)
 }
 
 pub(crate) fn two_bytes(bytes: &[u8], at: usize) -> Result<u16, FieldFault>
     ensures { result ≡ field bytes.now (at + 2) (two_bytes_at bytes.now at) }
 {
-    if bytes.len() < 2 || bytes.len() - 2 < at {
-        return Err(FieldFault::CutOff);
-    }
-    Ok(u16::from_le_bytes([bytes[at], bytes[at + 1]]))
+    Ok(u16::from_le_bytes(bytes_at(bytes, at)?))
 }
 
 fn number(bytes: &[u8], at: usize) -> Result<i32, FieldFault>
     ensures { result ≡ field bytes.now (at + 4) (number_at bytes.now at) }
 {
-    if bytes.len() < 4 || bytes.len() - 4 < at {
-        return Err(FieldFault::CutOff);
-    }
-    Ok(i32::from_le_bytes([bytes[at], bytes[at + 1], bytes[at + 2], bytes[at + 3]]))
+    Ok(i32::from_le_bytes(bytes_at(bytes, at)?))
 }
 
 pub(crate) fn read_head(bytes: &[u8], at: usize) -> Result<Head, FieldFault>

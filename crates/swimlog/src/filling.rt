@@ -3,11 +3,11 @@ ghost use Rattle.std.specs.Prelude.{◌≡◌, ◌+◌, ◌-◌, ◌<◌, ◌≤
 ghost use Rattle.net.specs.Nets.{most_records};
 ghost use Rattle.net.specs.Records.{records};
 ghost use Rattle.swimlog.specs.Fillings.{said_of, axis_steps, to_first, to_second, added, Grown, Filled};
-ghost use Rattle.swimlog.specs.Logs.{log_fault, Sized};
+ghost use Rattle.swimlog.specs.Logs.{log_fault};
 
 use crate::fault::LogFault;
 use crate::kind::Axis;
-use crate::log::{check_log, constraint_at};
+use crate::log::Log;
 use crate::sizes::Sizes;
 use crate::slice::slice_step;
 use constraint::Constraint;
@@ -18,10 +18,7 @@ fn add(net: &mut Net, constraint: Constraint)
     requires { length (records net.old) < most_records }
     ensures { Grown (said_of constraint ∷ []) net.old net.new }
 {
-    match net.push(constraint) {
-        Ok(()) => {}
-        Err(_) => unreachable(),
-    }
+    net.push(constraint).unwrap();
 }
 
 // The steps of all slices on one axis.
@@ -48,16 +45,15 @@ fn add_record(constraint: Constraint, one: &mut Net, two: &mut Net)
 }
 
 // The records of a log that was checked.
-fn add_records(bytes: &[u8], sizes: Sizes, one: &mut Net, two: &mut Net)
-    requires sound { log_fault bytes.now ≡ None }
-    requires sized { Sized bytes.now sizes }
-    requires one { length (records one.old) + sizes.records ≤ most_records }
-    requires two { length (records two.old) + sizes.records ≤ most_records }
-    ensures one { Grown (added to_first bytes.now sizes.gates sizes.records sizes.records) one.old one.new }
-    ensures two { Grown (added to_second bytes.now sizes.gates sizes.records sizes.records) two.old two.new }
+fn add_records(log: &Log, one: &mut Net, two: &mut Net)
+    requires sound { log_fault log.now.bytes.now ≡ None }
+    requires one { length (records one.old) + log.now.sizes.records ≤ most_records }
+    requires two { length (records two.old) + log.now.sizes.records ≤ most_records }
+    ensures one { Grown (added to_first log.now.bytes.now log.now.sizes.gates log.now.sizes.records log.now.sizes.records) one.old one.new }
+    ensures two { Grown (added to_second log.now.bytes.now log.now.sizes.gates log.now.sizes.records log.now.sizes.records) two.old two.new }
 {
-    for index in 0..sizes.records() {
-        add_record(constraint_at(bytes, sizes, index), one, two);
+    for index in 0..log.sizes().records() {
+        add_record(log.constraint(index), one, two);
     }
 }
 
@@ -65,11 +61,12 @@ fn add_records(bytes: &[u8], sizes: Sizes, one: &mut Net, two: &mut Net)
 pub fn read_log(bytes: &[u8], one: &mut Net, two: &mut Net) -> Result<Sizes, LogFault>
     ensures { Filled bytes.now one.old two.old one.new two.new result }
 {
-    let sizes = check_log(bytes)?;
+    let log = Log::checked(bytes)?;
+    let sizes = log.sizes();
     one.clear();
     two.clear();
     add_steps(one, sizes, Axis::X);
     add_steps(one, sizes, Axis::Y);
-    add_records(bytes, sizes, one, two);
+    add_records(&log, one, two);
     Ok(sizes)
 }

@@ -1,6 +1,11 @@
 // The kinds of record in a swim log.
 ghost use Rattle.std.specs.Prelude.{◌≡◌};
+ghost use Rattle.std.specs.Option.{ok_or};
 ghost use Rattle.swimlog.specs.Records.{axis_of, kind_of};
+ghost use Rattle.swimlog.specs.declared.fault.RecordFault.TheVariants.{UnknownKind};
+
+use crate::fault::RecordFault;
+use crate::field::Head;
 
 #[derive(Clone, Copy, Debug, PartialEq)]
 pub enum Axis {
@@ -18,23 +23,31 @@ pub enum Kind {
     Distance,
 }
 
-fn axis_of(axis: u8) -> Option<Axis>
-    ensures { result ≡ axis_of axis }
-{
-    match axis {
-        0 => Some(Axis::X),
-        1 => Some(Axis::Y),
-        _ => None,
+impl TryFrom<u8> for Axis {
+    type Error = RecordFault;
+
+    ghost try_from_gives = { λ axis r. r ≡ ok_or (axis_of axis) UnknownKind };
+
+    fn try_from(axis: u8) -> Result<Axis, RecordFault> {
+        match axis {
+            0 => Ok(Axis::X),
+            1 => Ok(Axis::Y),
+            _ => Err(RecordFault::UnknownKind),
+        }
     }
 }
 
-pub(crate) fn kind_of(kind: u8, axis: u8) -> Option<Kind>
-    ensures { result ≡ kind_of kind axis }
-{
-    match kind {
-        b'B' => Some(Kind::Position(axis_of(axis)?)),
-        b'S' => Some(Kind::Step(axis_of(axis)?)),
-        b'R' if axis == 0 => Some(Kind::Distance),
-        _ => None,
+impl TryFrom<Head> for Kind {
+    type Error = RecordFault;
+
+    ghost try_from_gives = { λ head r. r ≡ ok_or (kind_of head.kind head.axis) UnknownKind };
+
+    fn try_from(head: Head) -> Result<Kind, RecordFault> {
+        match head.kind {
+            b'B' => Ok(Kind::Position(head.axis.try_into()?)),
+            b'S' => Ok(Kind::Step(head.axis.try_into()?)),
+            b'R' if head.axis == 0 => Ok(Kind::Distance),
+            _ => Err(RecordFault::UnknownKind),
+        }
     }
 }

@@ -1,5 +1,5 @@
 // A whole swim log: its sizes, its length, then record by record, each head with its own body.
-ghost use Rattle.std.specs.Prelude.{◌≡◌, ◌<◌, length, IfErr, None, Ok};
+ghost use Rattle.std.specs.Prelude.{◌≡◌, ◌<◌, length, IfErr, None, Some, Ok, MatchResult};
 ghost use Rattle.std.specs.Result.{result_err};
 ghost use Rattle.swimlog.specs.Format.{log_length};
 ghost use Rattle.swimlog.specs.Logs.{record_of, record_fault, log_fault, numbered, Sized, ReadSizes, Checked, Blames};
@@ -12,60 +12,96 @@ use crate::record::read_record;
 use crate::sizes::Sizes;
 use constraint::Constraint;
 
+// A log with its sizes, and of the length that they ask for.
+#[derive(Clone, Copy)]
+pub(crate) struct Log<'a> {
+    bytes: &'a [u8],
+    sizes: Sizes,
+    ghost sized: { Sized bytes.now sizes },
+    ghost whole: { length bytes.now ≡ log_length sizes.records },
+}
+
 fn read_sizes(bytes: &[u8]) -> Result<Sizes, LogFault>
     ensures { ReadSizes bytes.now result }
 {
     let gates = two_bytes(bytes, 0)?;
     let records = two_bytes(bytes, 2)?;
-    match Sizes::new(gates, records) {
-        Some(sizes) => Ok(sizes),
-        None => Err(LogFault::BadSizes),
-    }
+    Sizes::new(gates, records).ok_or(LogFault::BadSizes)
 }
 
 // What reading a record answered, with the record's place in the log beside its fault.
 fn numbered(index: u16, read: Result<Constraint, RecordFault>) -> Result<Constraint, BadRecord>
     ensures { result ≡ numbered index read }
 {
-    match read {
-        Ok(constraint) => Ok(constraint),
-        Err(fault) => Err(BadRecord { index, fault }),
+    read.map_err(|fault| BadRecord { index, fault })
+}
+
+impl<'a> Log<'a> {
+    // Looks at the sizes and at the length, and at no record.
+    fn new(bytes: &'a [u8]) -> Result<Log<'a>, LogFault>
+        ensures { MatchResult result (λ log. log.bytes.now ≡ bytes.now) (λ e. log_fault bytes.now ≡ Some e) }
+    {
+        let sizes = read_sizes(bytes)?;
+        if bytes.len() != log_length(sizes) {
+            return Err(LogFault::BadLength);
+        }
+        Ok(Log { bytes, sizes })
+    }
+
+    // A log that is not refused. Nothing is written before this has looked at every byte.
+    pub(crate) fn checked(bytes: &'a [u8]) -> Result<Log<'a>, LogFault>
+        ensures { MatchResult result (λ log. (log.bytes.now ≡ bytes.now) × (log_fault bytes.now ≡ None)) (λ e. log_fault bytes.now ≡ Some e) }
+    {
+        let log = Log::new(bytes)?;
+        log.check()?;
+        Ok(log)
+    }
+
+    pub(crate) fn sizes(&self) -> Sizes
+        ensures { result ≡ self.now.sizes }
+    {
+        self.sizes
+    }
+
+    fn record(&self, index: u16) -> Result<Constraint, RecordFault>
+        requires { index < self.now.sizes.records }
+        ensures { Reads (record_of self.now.bytes.now self.now.sizes.gates self.now.sizes.records index) result }
+    {
+        read_record(self.bytes, self.sizes, index)
+    }
+
+    fn check_record(&self, index: u16) -> Result<(), LogFault>
+        requires { index < self.now.sizes.records }
+        ensures { result_err result ≡ record_fault self.now.bytes.now self.now.sizes.gates self.now.sizes.records index }
+    {
+        numbered(index, self.record(index))?;
+        Ok(())
+    }
+
+    fn check(&self) -> Result<(), LogFault>
+        ensures { result_err result ≡ log_fault self.now.bytes.now }
+    {
+        for index in 0..self.sizes.records() {
+            self.check_record(index)?;
+        }
+        Ok(())
+    }
+
+    // The constraint of a record of a log that is not refused.
+    pub(crate) fn constraint(&self, index: u16) -> Constraint
+        requires sound { log_fault self.now.bytes.now ≡ None }
+        requires within { index < self.now.sizes.records }
+        ensures { Reads (record_of self.now.bytes.now self.now.sizes.gates self.now.sizes.records index) (Ok result) }
+    {
+        self.record(index).unwrap()
     }
 }
 
-fn check_record(bytes: &[u8], sizes: Sizes, index: u16) -> Result<(), LogFault>
-    requires whole { length bytes.now ≡ log_length sizes.records }
-    requires within { index < sizes.records }
-    ensures { result_err result ≡ record_fault bytes.now sizes.gates sizes.records index }
-{
-    numbered(index, read_record(bytes, sizes, index))?;
-    Ok(())
-}
-
-// Whether a log can be read, and its sizes if so. Nothing is written before this has looked at every byte.
+// Whether a log can be read, and its sizes if so.
 pub fn check_log(bytes: &[u8]) -> Result<Sizes, LogFault>
     ensures checked { Checked bytes.now result }
     ensures blames { IfErr result (Blames bytes.now) }
 {
-    let sizes = read_sizes(bytes)?;
-    if bytes.len() != log_length(sizes) {
-        return Err(LogFault::BadLength);
-    }
-    for index in 0..sizes.records() {
-        check_record(bytes, sizes, index)?;
-    }
-    Ok(sizes)
-}
-
-// The constraint of a record of a log that was checked.
-pub(crate) fn constraint_at(bytes: &[u8], sizes: Sizes, index: u16) -> Constraint
-    requires sound { log_fault bytes.now ≡ None }
-    requires sized { Sized bytes.now sizes }
-    requires within { index < sizes.records }
-    ensures { Reads (record_of bytes.now sizes.gates sizes.records index) (Ok result) }
-{
-    match read_record(bytes, sizes, index) {
-        Ok(constraint) => constraint,
-        Err(_) => unreachable(),
-    }
+    let log = Log::checked(bytes)?;
+    Ok(log.sizes)
 }

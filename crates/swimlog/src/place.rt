@@ -2,7 +2,7 @@
 ghost use Rattle.std.specs.Prelude.{◌≡◌};
 ghost use Rattle.swimlog.specs.Records.{gate_cell, step_cell, places, unused, all_zero, is_placed};
 
-use crate::field::{Body, Head};
+use crate::field::{Body, Record};
 use crate::kind::{Axis, Kind};
 use crate::sizes::Sizes;
 
@@ -47,8 +47,9 @@ fn is_rest_zero(kind: Kind, body: Body) -> bool
     }
 }
 
-pub(crate) fn is_placed(sizes: Sizes, kind: Kind, head: Head, body: Body) -> bool
-    ensures { result ≡ is_placed sizes.gates kind head body }
+pub(crate) fn is_placed(sizes: Sizes, kind: Kind, record: Record) -> bool
+    ensures { result ≡ is_placed sizes.gates kind record.head record.body }
 {
-    head.p < places(sizes, kind) && head.q == 0 && is_rest_zero(kind, body)
+    let head = record.head;
+    head.p < places(sizes, kind) && head.q == 0 && is_rest_zero(kind, record.body)
 }

@@ -4,8 +4,8 @@ ghost use Rattle.swimlog.specs.Logs.{record_in};
 ghost use Rattle.swimlog.specs.Records.{bounds, ranges, says, made, record_says, Reads};
 
 use crate::fault::{FieldFault, RecordFault};
-use crate::field::{Body, Head, read_body, read_head};
-use crate::kind::{Axis, Kind, kind_of};
+use crate::field::{Body, Record, read_body, read_head};
+use crate::kind::{Axis, Kind};
 use crate::layout::{body_start, head_start};
 use crate::place::{gate_cell, is_placed, step_cell};
 use crate::sizes::Sizes;
@@ -29,41 +29,31 @@ fn make_range(number: u16, x: usize, y: usize, body: Body) -> Result<Constraint,
     Ok(Constraint::Range(range))
 }
 
-fn make(
-    sizes: Sizes,
-    number: u16,
-    kind: Kind,
-    head: Head,
-    body: Body,
-) -> Result<Constraint, RecordFault>
-    ensures { Reads (made (says sizes.gates number kind head body)) result }
-{
-    match kind {
-        Kind::Position(axis) => make_bound(number, gate_cell(sizes, axis, head.p), body),
-        Kind::Step(axis) => make_bound(number, step_cell(sizes, axis, head.p), body),
-        Kind::Distance => {
-            let x = gate_cell(sizes, Axis::X, head.p);
-            let y = gate_cell(sizes, Axis::Y, head.p);
-            make_range(number, x, y, body)
+impl Record {
+    fn make(self, sizes: Sizes, number: u16, kind: Kind) -> Result<Constraint, RecordFault>
+        ensures { Reads (made (says sizes.gates number kind self.head self.body)) result }
+    {
+        let place = self.head.p;
+        match kind {
+            Kind::Position(axis) => make_bound(number, gate_cell(sizes, axis, place), self.body),
+            Kind::Step(axis) => make_bound(number, step_cell(sizes, axis, place), self.body),
+            Kind::Distance => {
+                let x = gate_cell(sizes, Axis::X, place);
+                let y = gate_cell(sizes, Axis::Y, place);
+                make_range(number, x, y, self.body)
+            }
         }
     }
-}
 
-fn constraint_of(
-    sizes: Sizes,
-    number: u16,
-    head: Head,
-    body: Body,
-) -> Result<Constraint, RecordFault>
-    ensures { Reads (record_says sizes.gates number head body) result }
-{
-    let Some(kind) = kind_of(head.kind, head.axis) else {
-        return Err(RecordFault::UnknownKind);
-    };
-    if !is_placed(sizes, kind, head, body) {
-        return Err(RecordFault::BadPlace);
+    fn constraint(self, sizes: Sizes, number: u16) -> Result<Constraint, RecordFault>
+        ensures { Reads (record_says sizes.gates number self.head self.body) result }
+    {
+        let kind = Kind::try_from(self.head)?;
+        if !is_placed(sizes, kind, self) {
+            return Err(RecordFault::BadPlace);
+        }
+        self.make(sizes, number, kind)
     }
-    make(sizes, number, kind, head, body)
 }
 
 pub(crate) fn read_record(bytes: &[u8], sizes: Sizes, index: u16) -> Result<Constraint, RecordFault>
@@ -73,5 +63,5 @@ pub(crate) fn read_record(bytes: &[u8], sizes: Sizes, index: u16) -> Result<Cons
     let head = read_head(bytes, head_start(index))?;
     let body = read_body(bytes, body_start(sizes, index))?;
     let number = 2 * (sizes.gates() - 1) + index;
-    constraint_of(sizes, number, head, body)
+    Record { head, body }.constraint(sizes, number)
 }

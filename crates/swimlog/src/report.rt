@@ -1,4 +1,4 @@
-// What is printed for a swim log.
+// What is printed for a swim log, put on a page.
 use crate::fault::LogFault;
 use crate::sizes::Sizes;
 use contractor::{Fault, Mark};
@@ -6,7 +6,7 @@ use tube::{MAX_CELLS, Row};
 
 mod writing;
 
-pub use writing::write_report;
+pub use writing::{report_page, write_report};
 
 #[derive(Clone, Copy)]
 pub enum Report {

@@ -25,8 +25,6 @@ pub(crate) fn slice_step(sizes: Sizes, axis: Axis, slice: u16) -> Constraint
     let from = gate_cell(sizes, axis, slice);
     let by = step_cell(sizes, axis, slice);
     let to = gate_cell(sizes, axis, slice + 1);
-    match Step::new(step_number(sizes, axis, slice), from, by, to) {
-        Ok(step) => Constraint::Step(step),
-        Err(_) => unreachable(),
-    }
+    let step = Step::new(step_number(sizes, axis, slice), from, by, to).unwrap();
+    Constraint::Step(step)
 }

@@ -1,117 +1,81 @@
-// The report's bytes, put into a buffer.
-ghost use Rattle.std.specs.Prelude.{◌≡◌, ◌<◌, [], ◌∷◌, ◌++◌, map, codes, decimal};
+// The report's bytes, put on a page. A function that puts a part asks for the room that it fills, and one that puts a whole report on a new page shows that there is enough.
+ghost use Rattle.std.specs.Prelude.{◌≡◌, ◌+◌, ◌*◌, ◌<◌, ◌≤◌, [], ◌∷◌, ◌++◌, map, length, codes, decimal};
 ghost use Rattle.std.specs.Fmt.{signed_decimal};
-ghost use Rattle.swimlog.specs.Report.{Put, Written, space, line_end, spaced, line, mark_word, place_fields, gate_line, gate_lines, kept_bytes, empty_bytes, refused_bytes, report_bytes};
+ghost use Rattle.swimlog.specs.Limits.{most_gates};
+ghost use Rattle.swimlog.specs.Pages.{page_bytes, Spare, Room};
+ghost use Rattle.swimlog.specs.Report.{Written, space, line_end, spaced, line, mark_word, place_fields, gate_line, gate_lines, kept_bytes, empty_bytes, refused_bytes, report_bytes};
+ghost use Rattle.swimlog.specs.Rooms.{gate_line_length};
 
 use super::Report;
 use crate::fault::LogFault;
 use crate::kind::Axis;
+use crate::page::Page;
 use crate::place::gate_cell;
 use crate::sizes::Sizes;
 use contractor::{Fault, Mark};
+use itoa::{Buffer, Integer};
 use std::alloc::AllocError;
 use tube::{MAX_CELLS, Row};
 
-fn put(out: &mut Vec<u8>, bytes: &[u8]) -> Result<(), AllocError>
-    ensures { Put out.old.items bytes.now result out.new.items }
+fn put_field<I: Integer>(page: &mut Page, n: I)
+    requires { Room page.old (space ∷ I.text n) }
+    ensures { page_bytes page.new ≡ page_bytes page.old ++ (space ∷ I.text n) }
 {
-    out.extend_from_slice(bytes)
+    page.put_byte(b' ');
+    page.put_number(n);
 }
 
-fn put_number(out: &mut Vec<u8>, n: u64) -> Result<(), AllocError>
-    ensures { Put out.old.items (decimal n) result out.new.items }
-{
-    if n >= 10 {
-        put_number(out, n / 10)?;
-    }
-    put(out, &[b'0' + (n % 10) as u8])
-}
-
-fn put_signed(out: &mut Vec<u8>, n: i32) -> Result<(), AllocError>
-    ensures { Put out.old.items (signed_decimal n) result out.new.items }
-{
-    if n < 0 {
-        put(out, b"-")?;
-    }
-    put_number(out, n.unsigned_abs() as u64)
-}
-
-fn put_signed_field(out: &mut Vec<u8>, n: i32) -> Result<(), AllocError>
-    ensures { Put out.old.items (space ∷ signed_decimal n) result out.new.items }
-{
-    put(out, b" ")?;
-    put_signed(out, n)
-}
-
-fn put_ends(out: &mut Vec<u8>, row: Row) -> Result<(), AllocError>
-    ensures { Put out.old.items (spaced (signed_decimal row.low ∷ signed_decimal row.high ∷ [])) result out.new.items }
-{
-    put_signed_field(out, row.low)?;
-    put_signed_field(out, row.high)
-}
-
-fn put_field(out: &mut Vec<u8>, n: u64) -> Result<(), AllocError>
-    ensures { Put out.old.items (space ∷ decimal n) result out.new.items }
-{
-    put(out, b" ")?;
-    put_number(out, n)
-}
-
-fn put_fields(out: &mut Vec<u8>, fields: &[u64]) -> Result<(), AllocError>
-    ensures { Put out.old.items (spaced (map decimal fields.now)) result out.new.items }
+fn put_fields<I: Integer>(page: &mut Page, fields: &[I])
+    requires { Room page.old (spaced (map I.text fields.now)) }
+    ensures { page_bytes page.new ≡ page_bytes page.old ++ spaced (map I.text fields.now) }
 {
     for field in fields {
-        put_field(out, *field)?;
+        put_field(page, *field);
     }
-    Ok(())
 }
 
 // A line of a word and numbers.
-fn put_line(out: &mut Vec<u8>, word: &[u8], fields: &[u64]) -> Result<(), AllocError>
-    ensures { Put out.old.items (line word.now (map decimal fields.now)) result out.new.items }
+fn put_line<I: Integer>(page: &mut Page, word: &[u8], fields: &[I])
+    requires { Room page.old (line word.now (map I.text fields.now)) }
+    ensures { page_bytes page.new ≡ page_bytes page.old ++ line word.now (map I.text fields.now) }
 {
-    put(out, word)?;
-    put_fields(out, fields)?;
-    put(out, b"\n")
+    page.put(word);
+    put_fields(page, fields);
+    page.put_byte(b'\n');
 }
 
-// The ends of a gate's x, then of its y.
-fn put_place(out: &mut Vec<u8>, x: Row, y: Row) -> Result<(), AllocError>
-    ensures { Put out.old.items (spaced (place_fields x y)) result out.new.items }
+// A gate, then the ends of its x and of its y.
+fn put_place_line(page: &mut Page, gate: u16, x: Row, y: Row)
+    requires gate { gate < most_gates }
+    requires room { Spare page.old gate_line_length }
+    ensures line { page_bytes page.new ≡ page_bytes page.old ++ line (decimal gate) (place_fields x y) }
+    ensures short { length (page_bytes page.new) ≤ length (page_bytes page.old) + gate_line_length }
 {
-    put_ends(out, x)?;
-    put_ends(out, y)
+    put_line(
+        page,
+        Buffer::new().format(gate).as_bytes(),
+        &[x.low, x.high, y.low, y.high],
+    );
 }
 
-fn put_place_line(out: &mut Vec<u8>, gate: u16, x: Row, y: Row) -> Result<(), AllocError>
-    ensures { Put out.old.items (line (decimal gate) (place_fields x y)) result out.new.items }
-{
-    put_number(out, gate as u64)?;
-    put_place(out, x, y)?;
-    put(out, b"\n")
-}
-
-fn put_gate(
-    out: &mut Vec<u8>,
-    sizes: Sizes,
-    tube: &[Row; MAX_CELLS],
-    gate: u16,
-) -> Result<(), AllocError>
-    requires { gate < sizes.gates }
-    ensures { Put out.old.items (gate_line sizes.gates tube.now gate) result out.new.items }
+fn put_gate(page: &mut Page, sizes: Sizes, tube: &[Row; MAX_CELLS], gate: u16)
+    requires gate { gate < sizes.gates }
+    requires room { Spare page.old gate_line_length }
+    ensures line { page_bytes page.new ≡ page_bytes page.old ++ gate_line sizes.gates tube.now gate }
+    ensures short { length (page_bytes page.new) ≤ length (page_bytes page.old) + gate_line_length }
 {
     let x = tube[gate_cell(sizes, Axis::X, gate)];
     let y = tube[gate_cell(sizes, Axis::Y, gate)];
-    put_place_line(out, gate, x, y)
+    put_place_line(page, gate, x, y);
 }
 
-fn put_gates(out: &mut Vec<u8>, sizes: Sizes, tube: &[Row; MAX_CELLS]) -> Result<(), AllocError>
-    ensures { Put out.old.items (gate_lines sizes.gates tube.now sizes.gates) result out.new.items }
+fn put_gates(page: &mut Page, sizes: Sizes, tube: &[Row; MAX_CELLS])
+    requires { Spare page.old (gate_line_length * sizes.gates) }
+    ensures { page_bytes page.new ≡ page_bytes page.old ++ gate_lines sizes.gates tube.now sizes.gates }
 {
     for gate in 0..sizes.gates() {
-        put_gate(out, sizes, tube, gate)?;
+        put_gate(page, sizes, tube, gate);
     }
-    Ok(())
 }
 
 // The mark as the end of a line.
@@ -124,32 +88,29 @@ fn mark_end(mark: Mark) -> &'static [u8]
     }
 }
 
-fn put_kept_line(out: &mut Vec<u8>, calls: u64, mark: Mark) -> Result<(), AllocError>
-    ensures { Put out.old.items (line (codes "kept") (decimal calls ∷ mark_word mark ∷ [])) result out.new.items }
+fn put_kept_line(page: &mut Page, calls: u64, mark: Mark)
+    requires { Room page.old (line (codes "kept") (decimal calls ∷ mark_word mark ∷ [])) }
+    ensures { page_bytes page.new ≡ page_bytes page.old ++ line (codes "kept") (decimal calls ∷ mark_word mark ∷ []) }
 {
-    put(out, b"kept ")?;
-    put_number(out, calls)?;
-    put(out, mark_end(mark))
+    page.put(b"kept ");
+    page.put_number(calls);
+    page.put(mark_end(mark));
 }
 
-fn put_kept(
-    out: &mut Vec<u8>,
-    calls: u64,
-    mark: Mark,
-    sizes: Sizes,
-    tube: &[Row; MAX_CELLS],
-) -> Result<(), AllocError>
-    ensures { Put out.old.items (kept_bytes calls mark sizes.gates tube.now) result out.new.items }
+fn put_kept(page: &mut Page, calls: u64, mark: Mark, sizes: Sizes, tube: &[Row; MAX_CELLS])
+    requires { page_bytes page.old ≡ [] }
+    ensures { page_bytes page.new ≡ kept_bytes calls mark sizes.gates tube.now }
 {
-    put_kept_line(out, calls, mark)?;
-    put_gates(out, sizes, tube)
+    put_kept_line(page, calls, mark);
+    put_gates(page, sizes, tube);
 }
 
-fn put_empty(out: &mut Vec<u8>, fault: Fault, calls: u64) -> Result<(), AllocError>
-    ensures { Put out.old.items (empty_bytes fault calls) result out.new.items }
+fn put_empty(page: &mut Page, fault: Fault, calls: u64)
+    requires { page_bytes page.old ≡ [] }
+    ensures { page_bytes page.new ≡ empty_bytes fault calls }
 {
     put_line(
-        out,
+        page,
         b"empty",
         &[
             fault.number as u64,
@@ -158,46 +119,45 @@ fn put_empty(out: &mut Vec<u8>, fault: Fault, calls: u64) -> Result<(), AllocErr
             fault.path,
             calls,
         ],
-    )
+    );
 }
 
-fn put_refused(out: &mut Vec<u8>, fault: LogFault) -> Result<(), AllocError>
-    ensures { Put out.old.items (refused_bytes fault) result out.new.items }
+fn put_refused(page: &mut Page, fault: LogFault)
+    requires { page_bytes page.old ≡ [] }
+    ensures { page_bytes page.new ≡ refused_bytes fault }
 {
     put_line(
-        out,
+        page,
         b"refused",
         &[
             fault.number() as u64,
             fault.record() as u64,
             fault.inner() as u64,
         ],
-    )
+    );
 }
 
-fn put_report(out: &mut Vec<u8>, report: &Report) -> Result<(), AllocError>
-    ensures { Put out.old.items (report_bytes report.now) result out.new.items }
+// The report as it is printed.
+pub fn report_page(report: &Report) -> Page
+    ensures { page_bytes result ≡ report_bytes report.now }
 {
+    let mut page = Page::new();
     match report {
         Report::Kept {
             calls,
             mark,
             sizes,
             tube,
-        } => put_kept(out, *calls, *mark, *sizes, tube),
-        Report::Empty { fault, calls } => put_empty(out, *fault, *calls),
-        Report::Refused(fault) => put_refused(out, *fault),
+        } => put_kept(&mut page, *calls, *mark, *sizes, tube),
+        Report::Empty { fault, calls } => put_empty(&mut page, *fault, *calls),
+        Report::Refused(fault) => put_refused(&mut page, *fault),
     }
+    page
 }
 
-// Adds the report to the buffer. Where there is no memory for all of it, the buffer stays as it was.
+// Adds the report to a buffer. Where there is no memory for all of it, the buffer stays as it was.
 pub fn write_report(report: &Report, out: &mut Vec<u8>) -> Result<(), AllocError>
     ensures { Written out.old.items (report_bytes report.now) result out.new.items }
 {
-    let length = out.len();
-    let put = put_report(out, report);
-    if put.is_err() {
-        out.truncate(length);
-    }
-    put
+    out.extend_from_slice(report_page(report).bytes())
 }

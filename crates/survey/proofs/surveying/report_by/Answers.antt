@@ -1,4 +1,4 @@
-use Rattle.std.proofs.Common.{◌≡◌, length, None, sym, refl, ap, ◌∙◌, subst, rules}
+use Rattle.std.proofs.Common.{◌≡◌, length, None, sym, refl, ap, ◌∙◌, subst}
 use Rattle.std.proofs.lemmas.List.{take_at, length-replicate}
 use Rattle.contractor.specs.Contractors.{Fair}
 use Rattle.swimlog.proofs.Limits.{limited}
@@ -7,9 +7,6 @@ use Rattle.survey.specs.Surveys.{widest, first_tube}
 use Rattle.survey.specs.Tracks.{first_refusal, Ended}
 use Rattle.survey.proofs.FirstTubes.{first_part}
 use Rattle.survey.proofs.surveying.report_by.Goals as goal
-
-pub slice_bounds-tube-end : goal.slice_bounds-tube-end
-slice_bounds-tube-end g c = let small = limited c.args.sizes.gates c.args.sizes.records c.args.sizes.limited in search rules
 
 pub use_on_track-verdict-requires : goal.use_on_track-verdict-requires
 use_on_track-verdict-requires g c =

@@ -5,12 +5,13 @@ use Rattle.swimlog.proofs.filling.add_records.Goals as goal
 
 pub loop-index-preserved : goal.loop-index-preserved
 loop-index-preserved c =
-    let bytes = c.args.bytes.now in
-    let gates = c.args.sizes.gates in
-    let records = c.args.sizes.records in
+    let log = c.args.log.now in
+    let bytes = log.bytes.now in
+    let gates = log.sizes.gates in
+    let records = log.sizes.records in
     let i = c.loop-index.index in
-    let k = c.constraint_at.result in
-    let is = c.constraint_at.ensures in
+    let k = c.constraint.result in
+    let is = c.constraint.ensures in
     let one = c.add_record.ensures.one in
     let two = c.add_record.ensures.two in (
       grown_as _ (added to_first bytes gates records (i + 1)) c.args.one.now c.add_record.new.one (added_more to_first bytes gates records i k is)

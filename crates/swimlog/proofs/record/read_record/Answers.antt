@@ -9,7 +9,7 @@ returns c =
     let h = field_read bytes (c.head_start.result + head_length) (head_at bytes c.head_start.result) c.in_ok-head.head c.in_ok-head.ensures in
     let b = field_read bytes (c.body_start.result + body_length) (body_at bytes c.body_start.result) c.in_ok-body.body c.in_ok-body.ensures in
     let whole : body_start c.args.sizes.records c.args.index + body_length ≤ length bytes = omega (arith, b.0) in
-    reads_parts bytes c.args.sizes.gates c.args.sizes.records c.args.index whole c.constraint_of.result
+    reads_parts bytes c.args.sizes.gates c.args.sizes.records c.args.index whole c.constraint.result
     _ c.in_ok-head.head c.in_ok-body.body
     (omega arith) (h.1 ∙ ap (head_at bytes) c.head_start.ensures) (b.1 ∙ ap (body_at bytes) c.body_start.ensures)
-    c.constraint_of.ensures
+    c.constraint.ensures

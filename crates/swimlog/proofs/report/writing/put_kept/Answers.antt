@@ -1,10 +1,22 @@
-use Rattle.std.proofs.Common.{[], ◌∷◌, vec_items, codes, decimal}
-use Rattle.swimlog.specs.Report.{line, mark_word, gate_lines}
-use Rattle.swimlog.proofs.Puts.{put_then}
+use Rattle.std.proofs.Common.{[], ◌∷◌, length, codes, decimal, ap, arith}
+use Rattle.std.proofs.lemmas.List.{length-append}
+use Rattle.swimlog.proofs.Limits.{limited}
+use Rattle.swimlog.specs.Pages.{page_bytes}
+use Rattle.swimlog.specs.Report.{line, mark_word}
+use Rattle.swimlog.proofs.Lengths.{kept_line_short}
 use Rattle.swimlog.proofs.report.writing.put_kept.Goals as goal
 
-pub returns : goal.returns
-returns c =
-    put_then (vec_items c.args.out.now) (vec_items c.put_kept_line.new.out) (vec_items c.put_gates.new.out)
-    (line (codes "kept") (decimal c.args.calls ∷ mark_word c.args.mark ∷ [])) c.in_ok-put_kept_line.ensures
-    (gate_lines c.args.sizes.gates c.args.tube.now c.args.sizes.gates) c.put_gates.result c.put_gates.ensures
+pub put_kept_line-requires : goal.put_kept_line-requires
+put_kept_line-requires c = omega (arith, ap length c.requires, kept_line_short c.args.calls c.args.mark (omega arith))
+
+pub put_gates-requires : goal.put_gates-requires
+put_gates-requires c =
+    let sizes = c.args.sizes in
+    let small = limited sizes.gates sizes.records sizes.limited in
+    omega (
+      arith,
+      ap length c.requires,
+      ap length c.put_kept_line.ensures,
+      length-append (page_bytes c.args.page.now) (line (codes "kept") (decimal c.args.calls ∷ mark_word c.args.mark ∷ [])),
+      kept_line_short c.args.calls c.args.mark (omega arith),
+    )

@@ -1,6 +1,0 @@
-use Rattle.std.proofs.Common.{◌≡◌, ◌++◌, drop, decimal}
-use Rattle.survey.proofs.Numbers.{last_digits}
-use Rattle.survey.proofs.page.numbers.write_digits.Given as goal
-
-abbrev pub invariant-loop-at : goal.invariant-loop-at
-invariant-loop-at l = last_digits l.at l.rest ++ drop l.at l.out ≡ decimal l.n
