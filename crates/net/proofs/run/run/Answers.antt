@@ -24,16 +24,11 @@ loop-calls-preserved c =
     let joined = c.wake.ensures ∙ joined_after c.args.records.now c.of-chains.result c.take_first.new.self k c.loop-calls.tube c.use_on-used.new.tube c.use_on-used.result c.of-chains.ensures c.use_on-used.ensures in
     running_more _ _ _ _ _ _ c.loop-calls.invariant _ _ c.in-Some.ensures k c.index-records-position.is (omega arith) c.use_on-used.new.tube c.use_on-used.result c.use_on-used.ensures _ _ c.in-Kept.is joined
 
-pub passed_up-requires : goal.passed_up-requires
-passed_up-requires c =
-    let k = c.index-records-position.result in
-    let short = short_path _ _ _ _ _ _ c.loop-calls.invariant _ _ c.in-Some.ensures k c.index-records-position.is (omega arith) c.use_on-used.new.tube c.use_on-used.result c.use_on-used.ensures c.in-Empty.fault c.in-Empty.is in
-    omega arith
-
 pub returns-in-Empty : goal.returns-in-Empty
 returns-in-Empty c =
     let k = c.index-records-position.result in
-    ap (λ a. leaving a c.use_on-used.new.tube) (c.empty.ensures ∙ ap (λ f. emptied f (c.loop-calls.calls + 1)) c.passed_up.ensures)
+    let short = short_path _ _ _ _ _ _ c.loop-calls.invariant _ _ c.in-Some.ensures k c.index-records-position.is (omega arith) c.use_on-used.new.tube c.use_on-used.result c.use_on-used.ensures c.in-Empty.fault c.in-Empty.is in
+    ap (λ a. leaving a c.use_on-used.new.tube) (c.empty.ensures ∙ ap (λ f. emptied f (c.loop-calls.calls + 1)) (c.passed_up.ensures.room (omega arith)))
     ∙ running_empty _ _ _ _ _ _ c.loop-calls.invariant _ _ c.in-Some.ensures k c.index-records-position.is (omega arith) c.use_on-used.new.tube c.use_on-used.result c.use_on-used.ensures c.in-Empty.fault c.in-Empty.is
 
 pub returns : goal.returns
