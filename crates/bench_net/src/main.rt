@@ -5,7 +5,7 @@
 use constraint::{Bound, Constraint, Step};
 use contractor::{Contractor, Rounds};
 use net::Net;
-use tube::{Interval, Row};
+use tube::Row;
 
 // Positions first, and then the steps between them.
 const GATES: usize = 171;
@@ -32,10 +32,7 @@ fn main(rt: HostRuntime) -> anyhow::Result<()> {
     fill(&mut net)?;
     let mut uses = 0u64;
     for _ in 0..TURNS {
-        let mut tube = [Row {
-            low: -Interval::REACH,
-            high: Interval::REACH,
-        }; CELLS];
+        let mut tube = [Row::WIDEST; CELLS];
         if let Ok(answer) = net.contract(&mut tube) {
             uses = uses.saturating_add(answer.calls);
         }

@@ -1,7 +1,6 @@
 // The three constraints that a swim log turns into: a bound, a step and a range.
 #![tactic(auto)]
 
-mod answers;
 mod axis;
 mod bound;
 mod cells;

@@ -1,6 +1,7 @@
 // What a use of a contractor answers.
 ghost use Rattle.std.specs.Prelude.{◌≡◌, ◌+◌, ◌*◌, ◌-◌, ◌^◌, ◌<◌, ◌≤◌};
 ghost use Rattle.contractor.specs.Answers.{kept, emptied};
+ghost use Rattle.contractor.specs.declared.answer.Mark.TheVariants.{Settled};
 ghost use Rattle.contractor.specs.Layers.{passed_up};
 
 // Why a tube holds no trajectory of a relation: the kind of the constraint that said so, its number, the cell where nothing is left,
@@ -64,5 +65,24 @@ impl Answer {
             verdict: Verdict::Empty(fault),
             calls,
         }
+    }
+
+    // A contractor with no parts answers one call: settled, or empty at one of its cells.
+    pub fn settled() -> Self
+        ensures { result ≡ kept Settled 1 }
+    {
+        Answer::kept(Mark::Settled, 1)
+    }
+
+    pub fn empty_at(cause: u8, number: u16, cell: usize) -> Self
+        ensures { result ≡ emptied (record { cause = cause; number = number; cell = cell; path = 0 }) 1 }
+    {
+        let fault = Fault {
+            cause,
+            number,
+            cell,
+            path: 0,
+        };
+        Answer::empty(fault, 1)
     }
 }

@@ -13,7 +13,7 @@ use tube::{Interval, MakingFault, Row};
 // The farthest coordinate, and a cell of which nothing is known.
 const W: i32 = Interval::REACH;
 
-const FULL: Row = Row { low: -W, high: W };
+const FULL: Row = Row::WIDEST;
 
 fn row(low: i32, high: i32) -> Row {
     Row { low, high }

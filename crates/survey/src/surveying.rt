@@ -12,18 +12,12 @@ use crate::tracked::use_on_track;
 use contractor::{Answer, Both, Contractor, Repeat, Rounds, Verdict};
 use net::Net;
 use swimlog::{Report, Sizes, read_log};
-use tube::{Interval, MAX_CELLS, Row};
+use tube::{MAX_CELLS, Row};
 
 // How many rounds each of the nets may take, and the pile over both.
 const NET_ROUNDS: u32 = 32;
 
 const PILE_ROUNDS: u32 = 8;
-
-// As wide as an interval can be.
-const WIDEST: Row = Row {
-    low: -Interval::REACH,
-    high: Interval::REACH,
-};
 
 fn rounds(count: u32) -> Rounds
     requires { is_count count ≡ true }
@@ -36,7 +30,7 @@ fn rounds(count: u32) -> Rounds
 fn widest_table() -> [Row; MAX_CELLS]
     ensures { result ≡ replicate most_cells widest }
 {
-    [WIDEST; MAX_CELLS]
+    [Row::WIDEST; MAX_CELLS]
 }
 
 // What a contractor makes of a tube of which nothing is known.

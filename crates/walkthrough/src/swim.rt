@@ -1,16 +1,13 @@
 // The swim of the tour: three gates, two slices between them, and eleven records built by hand.
 use constraint::{Beacon, Bound, Constraint, Range, Step};
 use std::alloc::Global;
-use tube::{Interval, Row};
+use tube::Row;
 
 // The positions at the gates, x first, and then the steps of the slices.
 pub const CELLS: usize = 10;
 
 // A cell of which nothing is known.
-pub const ANYWHERE: Row = Row {
-    low: -Interval::REACH,
-    high: Interval::REACH,
-};
+pub const ANYWHERE: Row = Row::WIDEST;
 
 pub(crate) fn cell_name(cell: usize) -> &'static str {
     match cell {

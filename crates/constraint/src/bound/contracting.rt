@@ -5,7 +5,6 @@ ghost use Rattle.constraint.specs.Mentions.{bound_cells, in_slots};
 ghost use Rattle.constraint.specs.Keeping.{bound_value_keeps};
 
 use super::Bound;
-use crate::answers::{empty_at, settled};
 use crate::cells::{LAST_CELL, interval_at};
 use contractor::{Answer, Contractor};
 use tube::{Interval, MakingFault, Row};
@@ -57,12 +56,12 @@ impl Contractor for Bound {
         let held = interval_at(tube, self.cell);
         // Most uses narrow nothing, and then nothing is written.
         if self.span.low <= held.low && held.high <= self.span.high {
-            return settled();
+            return Answer::settled();
         }
         let Some(left) = held.cut(self.span.low, self.span.high) else {
-            return empty_at(Bound::CAUSE, self.number, self.cell);
+            return Answer::empty_at(Bound::CAUSE, self.number, self.cell as usize);
         };
         tube[self.cell as usize] = Row::from(left);
-        settled()
+        Answer::settled()
     }
 }

@@ -6,7 +6,6 @@ ghost use Rattle.constraint.specs.Mentions.{range_cells, in_slots};
 ghost use Rattle.constraint.specs.Keeping.{range_value_keeps};
 
 use super::{Beacon, Range};
-use crate::answers::{empty_at, settled};
 use crate::axis::Axis;
 use crate::cells::{LAST_CELL, interval_at};
 use crate::distances::Distances;
@@ -91,16 +90,16 @@ impl Contractor for Range {
         let y_limits = self.distances.limits(x);
         // Most uses narrow nothing, and then nothing is written.
         if x.is_whole(x_limits) && y.is_whole(y_limits) {
-            return settled();
+            return Answer::settled();
         }
         let Some(new_x) = x.within(x_limits) else {
-            return empty_at(Range::CAUSE, self.number, self.x);
+            return Answer::empty_at(Range::CAUSE, self.number, self.x as usize);
         };
         let Some(new_y) = y.within(y_limits) else {
-            return empty_at(Range::CAUSE, self.number, self.y);
+            return Answer::empty_at(Range::CAUSE, self.number, self.y as usize);
         };
         tube[self.x as usize] = Row::from(new_x);
         tube[self.y as usize] = Row::from(new_y);
-        settled()
+        Answer::settled()
     }
 }

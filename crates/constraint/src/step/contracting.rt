@@ -5,7 +5,6 @@ ghost use Rattle.constraint.specs.Mentions.{step_cells, in_slots};
 ghost use Rattle.constraint.specs.Keeping.{step_value_keeps};
 
 use super::Step;
-use crate::answers::{empty_at, settled};
 use crate::cells::{LAST_CELL, interval_at};
 use crate::sum::{Summed, all_fit};
 use contractor::{Answer, Contractor};
@@ -64,14 +63,14 @@ impl Contractor for Step {
         let to = interval_at(tube, self.to);
         // Most uses narrow nothing, and then nothing is written.
         if all_fit(from, by, to) {
-            return settled();
+            return Answer::settled();
         }
         let Some(left) = Summed::new(from, by, to) else {
-            return empty_at(Step::CAUSE, self.number, self.to);
+            return Answer::empty_at(Step::CAUSE, self.number, self.to as usize);
         };
         tube[self.to as usize] = Row::from(left.to);
         tube[self.from as usize] = Row::from(left.from);
         tube[self.by as usize] = Row::from(left.by);
-        settled()
+        Answer::settled()
     }
 }

@@ -2,13 +2,11 @@
 ghost use Rattle.std.specs.Prelude.{◌≡◌, ◌<◌, true, length};
 ghost use Rattle.tube.specs.Intervals.{row_of};
 ghost use Rattle.tube.specs.Tubes.{is_tube, cell};
-ghost use Rattle.contractor.specs.Answers.{emptied};
-ghost use Rattle.own_contractor.specs.Orders.{order_cause};
 ghost use Rattle.own_contractor.specs.AtMosts.{at_most_value, MadeAtMost};
 ghost use Rattle.own_contractor.specs.Keeping.{at_most_keeps};
 
 use super::AtMost;
-use contractor::{Answer, Contractor, Fault, Mark};
+use contractor::{Answer, Contractor};
 use tube::{Interval, MAX_CELLS, MakingFault, Row};
 
 impl AtMost {
@@ -33,6 +31,7 @@ impl AtMost {
 }
 
 // A cell of a tube. `narrow` is used on tubes alone, so that the row is an interval: it is proved, and not tested.
+// The library has the like for itself. It could not hand it out: a public function asks nothing of its callers, and would have to test.
 fn interval_at(tube: &[Row], index: usize) -> Interval
     requires tube { is_tube tube.now ≡ true }
     requires within { index < length tube.now }
@@ -43,20 +42,6 @@ fn interval_at(tube: &[Row], index: usize) -> Interval
         low: row.low,
         high: row.high,
     }
-}
-
-fn empty_at(number: u16, cell: usize) -> Answer
-    ensures { result ≡ emptied (record { cause = order_cause; number = number; cell = cell; path = 0 }) 1 }
-{
-    Answer::empty(
-        Fault {
-            cause: AtMost::CAUSE,
-            number,
-            cell,
-            path: 0,
-        },
-        1,
-    )
 }
 
 impl Contractor for AtMost {
@@ -80,13 +65,13 @@ impl Contractor for AtMost {
         let behind = interval_at(tube, self.behind);
         let ahead = interval_at(tube, self.ahead);
         let Some(new_behind) = behind.cut(-Interval::REACH, ahead.high) else {
-            return empty_at(self.number, self.behind);
+            return Answer::empty_at(AtMost::CAUSE, self.number, self.behind);
         };
         let Some(new_ahead) = ahead.cut(behind.low, Interval::REACH) else {
-            return empty_at(self.number, self.ahead);
+            return Answer::empty_at(AtMost::CAUSE, self.number, self.ahead);
         };
         tube[self.behind] = Row::from(new_behind);
         tube[self.ahead] = Row::from(new_ahead);
-        Answer::kept(Mark::Settled, 1)
+        Answer::settled()
     }
 }
