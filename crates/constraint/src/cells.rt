@@ -9,6 +9,7 @@ use tube::{Interval, Row};
 pub(crate) const LAST_CELL: usize = 511;
 
 // A cell of a tube. That its row is an interval is known of every tube, so nothing is tested.
+// That the table is a tube is asked for and not told by a type: tables are the caller's slices, and a type round one would be made anew for every use of every part.
 pub(crate) fn interval_at(tube: &[Row], index: u16) -> Interval
     requires tube { is_tube tube.now ≡ true }
     requires within { index < length tube.now }

@@ -10,6 +10,7 @@ use crate::step::Step;
 use contractor::{Answer, Contractor};
 use tube::Row;
 
+// An enum and no dyn Contractor: a net has its records by value, in fixed memory.
 #[derive(Clone, Copy, Debug, Eq, PartialEq)]
 pub enum Constraint {
     Bound(Bound),
@@ -18,7 +19,7 @@ pub enum Constraint {
 }
 
 impl Constraint {
-    // The cells that it mentions, in three slots: the last stands again in each slot that is left.
+    // The cells that it mentions, in three slots of fixed memory: the last stands again in each slot that is left.
     pub fn cells(self) -> [u16; 3]
         ensures { result ≡ cell_slots self }
     {

@@ -15,7 +15,7 @@ pub trait Contractor {
     fn need(&self) -> usize
         ensures { result ≡ (value self.now).need };
 
-    // How many layers stand above its lowest part.
+    // How many layers stand above its lowest part. Neither this nor the ceiling has a body here, though a contractor with no parts always tells 0 and 1: a body is proved once for every contractor.
     fn height(&self) -> u8
         ensures { result ≡ (value self.now).height };
 

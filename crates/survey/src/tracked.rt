@@ -4,7 +4,7 @@ ghost use Rattle.tube.specs.Tubes.{is_tube};
 ghost use Rattle.contractor.specs.Contractors.{Fair};
 ghost use Rattle.survey.specs.Tracks.{Fresh, first_refusal, Ended};
 
-use contractor::{Answer, Contractor, Verdict};
+use contractor::{Answer, Contractor};
 use track::{Proposal, Used, make};
 use tube::{MAX_CELLS, Row};
 
@@ -45,19 +45,14 @@ pub(crate) fn use_on_track<C: Contractor>(contractor: &mut C, table: &mut [Row])
     ensures ended { Ended (C.value contractor.old) table.old table.new result }
     ensures fair { Fair (C.value contractor.old) table.old ((C.value contractor.old).narrowed table.old) }
 {
+    // No heap: as many rows as the longest tube.
     let mut rows = [Row { low: 0, high: 0 }; MAX_CELLS];
     let work = &mut rows[0..table.len()];
     match open(table, work).apply(contractor, work) {
-        Ok(Used::Kept(proposal, mark)) => Answer {
-            verdict: Verdict::Kept(mark),
-            calls: commit(proposal, table, work),
-        },
+        Ok(Used::Kept(proposal, mark)) => Answer::kept(mark, commit(proposal, table, work)),
         Ok(Used::Emptied(emptied)) => {
             let (fault, rest) = emptied.close();
-            Answer {
-                verdict: Verdict::Empty(fault),
-                calls: rest.charged(),
-            }
+            Answer::empty(fault, rest.charged())
         }
         // No unwrap: a refused proposal can't be dropped.
         Err(refused) => {

@@ -76,7 +76,7 @@ impl From<BadRecord> for LogFault {
 }
 
 impl RecordFault {
-    // The number by which the fault is reported.
+    // The number by which the fault is reported. Not a discriminant: a bad value has the constraint's own fault inside.
     pub fn number(self) -> u8
         ensures { result ≡ record_number self }
     {

@@ -15,6 +15,7 @@ pub enum Report {
         calls: u64,
         mark: Mark,
         sizes: Sizes,
+        // No heap, since the survey is linked into programs that have none: as many rows as the longest tube, and the first few count.
         tube: [Row; MAX_CELLS],
     },
     // No trajectory obeys it.

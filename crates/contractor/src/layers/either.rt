@@ -54,6 +54,7 @@ impl<A: Contractor, B: Contractor> Contractor for Either<A, B> {
     }
 
     fn narrow(&mut self, tube: &mut [Row]) -> Answer {
+        // No heap: as many rows as the longest tube.
         let mut rows = [Row { low: 0, high: 0 }; MAX_CELLS];
         let spare = &mut rows[0..tube.len()];
         spare.copy_from_slice(tube);

@@ -69,6 +69,7 @@ impl<C: Contractor> Contractor for Repeat<C> {
     }
 
     fn narrow(&mut self, tube: &mut [Row]) -> Answer {
+        // No heap: as many rows as the longest tube.
         let mut rows = [Row { low: 0, high: 0 }; MAX_CELLS];
         let before = &mut rows[0..tube.len()];
         let mut calls = 0;

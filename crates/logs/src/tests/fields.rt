@@ -89,12 +89,12 @@ fn unused_fields(rt: HostRuntime) -> Result<(), Fail> {
         (b'S', [17, 0, 16, 16, 16, 16]),
         (b'R', [0, 0, 17, 0, 16, 16]),
     ] {
-        for i in 0..6 {
+        for (i, number) in numbers.iter().enumerate() {
             let mut body = [0; 6];
             body[i] = 1;
-            check_record(&rt, rt.alloc(), 2, of_kind(kind, 0, 0, body), numbers[i])?;
+            check_record(&rt, rt.alloc(), 2, of_kind(kind, 0, 0, body), *number)?;
             // The highest byte alone, and all four.
-            if numbers[i] == 16 {
+            if *number == 16 {
                 body[i] = 1 << 24;
                 check_record(&rt, rt.alloc(), 2, of_kind(kind, 0, 0, body), 16)?;
                 body[i] = -1;

@@ -2,6 +2,7 @@
 use super::*;
 use std::process::Abort;
 
+// The like stands in the tests of limits. The two crates share the library alone, and three such lines need no crate of their own.
 fn bounds(number: u16, cell: usize, low: i32, high: i32) -> Result<Constraint, Fail> {
     Ok(Constraint::Bound(Bound::new(number, cell, low, high)?))
 }
@@ -75,10 +76,7 @@ fn check_taken(
 ) -> Result<(), Fail> {
     let mut one = filled(5)?;
     let mut two = filled(6)?;
-    let sizes = match read_log(bytes, &mut one, &mut two) {
-        Ok(sizes) => sizes,
-        Err(_) => return Err(Fail::new("refused")),
-    };
+    let sizes = read_log(bytes, &mut one, &mut two)?;
     assert_eq!(rt; sizes.cells(), cells);
     check_net(rt, &one, 5, first);
     check_net(rt, &two, 6, second);

@@ -58,6 +58,7 @@ fn put_place_line(page: &mut Page, gate: u16, x: Row, y: Row)
     );
 }
 
+// The tube and the sizes that tell its cells go side by side, as the report has them: a struct of both would only be taken apart again.
 fn put_gate(page: &mut Page, sizes: Sizes, tube: &[Row; MAX_CELLS], gate: u16)
     requires gate { gate < sizes.gates }
     requires room { Spare page.old gate_line_length }
@@ -78,7 +79,7 @@ fn put_gates(page: &mut Page, sizes: Sizes, tube: &[Row; MAX_CELLS])
     }
 }
 
-// The mark as the end of a line.
+// The mark as the end of a line. Not a Display: that writes to what may be full, and a page that has room is not.
 fn mark_end(mark: Mark) -> &'static [u8]
     ensures { result.now ≡ space ∷ (mark_word mark ++ (line_end ∷ [])) }
 {

@@ -1,6 +1,7 @@
 use Rattle.std.proofs.Common.{Ok, sym, refl, ap, ◌∙◌, subst, arith}
 use Rattle.contractor.specs.Answers.{kept, emptied}
 use Rattle.track.specs.Standings.{Using}
+use Rattle.survey.specs.Tracks.{Ended}
 use Rattle.survey.proofs.Tracking.{fair, kept_cells, kept_work, kept_answer, emptied_answer}
 use Rattle.survey.proofs.tracked.use_on_track.Goals as goal
 
@@ -20,7 +21,7 @@ returns-in-Ok-Kept g c =
     let answer = kept_answer v opened.fresh opened.copied c.apply.new.work c.in-Ok-Kept.proposal c.in-Ok-Kept.mark used in
     let work = kept_work v opened.fresh opened.copied c.apply.new.work c.in-Ok-Kept.proposal c.in-Ok-Kept.mark used in
     record {
-      ended = (answer ∙ ap (kept c.in-Ok-Kept.mark) (sym c.commit.ensures.charged), c.commit.ensures.copied ∙ work);
+      ended = subst (Ended v c.args.table.now c.commit.new.table) (sym c.kept.ensures) (answer ∙ ap (kept c.in-Ok-Kept.mark) (sym c.commit.ensures.charged), c.commit.ensures.copied ∙ work);
       fair = fair v c.args.table.now c.requires (g.met.C.Contractor.keeps c.args.contractor.now);
     }
 
@@ -34,6 +35,6 @@ returns-in-Ok-Emptied g c =
     let charged = c.charged.ensures ∙ ap (λ s. s.charged) (c.close.ensures.1 t t).1 in
     let answer = emptied_answer v opened.fresh opened.copied c.apply.new.work left used in
     record {
-      ended = (answer ∙ ap (λ f. emptied f left.account.charged) (sym c.close.ensures.0) ∙ ap (emptied c.close.result.0) (sym charged), refl);
+      ended = subst (Ended v t t) (sym c.empty.ensures) (answer ∙ ap (λ f. emptied f left.account.charged) (sym c.close.ensures.0) ∙ ap (emptied c.close.result.0) (sym charged), refl);
       fair = fair v t c.requires (g.met.C.Contractor.keeps c.args.contractor.now);
     }
