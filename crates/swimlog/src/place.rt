@@ -47,9 +47,9 @@ fn is_rest_zero(kind: Kind, body: Body) -> bool
     }
 }
 
-pub(crate) fn is_placed(sizes: Sizes, kind: Kind, record: Record) -> bool
-    ensures { result ≡ is_placed sizes.gates kind record.head record.body }
+pub(crate) fn is_placed(sizes: Sizes, kind: Kind, read: Record) -> bool
+    ensures { result ≡ is_placed sizes.gates kind read.head read.body }
 {
-    let head = record.head;
-    head.p < places(sizes, kind) && head.q == 0 && is_rest_zero(kind, record.body)
+    let Record { head, body } = read;
+    head.p < places(sizes, kind) && head.q == 0 && is_rest_zero(kind, body)
 }

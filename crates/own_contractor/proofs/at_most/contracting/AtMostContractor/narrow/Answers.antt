@@ -4,12 +4,6 @@ use Rattle.contractor.specs.Accepting.{accepted_facts}
 use Rattle.own_contractor.specs.AtMosts.{at_most_value}
 use Rattle.own_contractor.proofs.at_most.contracting.AtMostContractor.narrow.Goals as goal
 
-pub interval_at-behind-requires : goal.interval_at-behind-requires
-interval_at-behind-requires c = let a = accepted_facts (at_most_value c.args.self.now) c.args.tube.now c.requires in record { tube = a.tube; within = omega arith }
-
-pub interval_at-ahead-requires : goal.interval_at-ahead-requires
-interval_at-ahead-requires c = let a = accepted_facts (at_most_value c.args.self.now) c.args.tube.now c.requires in record { tube = a.tube; within = omega arith }
-
 pub bounds-tube-self : goal.bounds-tube-self
 bounds-tube-self c = let a = accepted_facts (at_most_value c.args.self.now) c.args.tube.now c.requires in omega arith
 
