@@ -9,7 +9,6 @@ use crate::fault::LogFault;
 use crate::kind::Axis;
 use crate::log::Log;
 use crate::sizes::Sizes;
-use crate::slice::slice_step;
 use constraint::Constraint;
 use net::Net;
 
@@ -27,7 +26,7 @@ fn add_steps(net: &mut Net, sizes: Sizes, axis: Axis)
     ensures { Grown (axis_steps sizes.gates axis (sizes.gates - 1)) net.old net.new }
 {
     for slice in 0..sizes.gates() - 1 {
-        add(net, slice_step(sizes, axis, slice));
+        add(net, sizes.slice_step(axis, slice));
     }
 }
 

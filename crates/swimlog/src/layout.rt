@@ -19,14 +19,16 @@ pub(crate) fn head_start(index: u16) -> usize
     SIZES_LENGTH + HEAD_LENGTH * index as usize
 }
 
-pub(crate) fn body_start(sizes: Sizes, index: u16) -> usize
-    ensures { result ≡ body_start sizes.records index }
-{
-    SIZES_LENGTH + HEAD_LENGTH * sizes.records() as usize + BODY_LENGTH * index as usize
-}
+impl Sizes {
+    pub(crate) fn body_start(self, index: u16) -> usize
+        ensures { result ≡ body_start self.records index }
+    {
+        SIZES_LENGTH + HEAD_LENGTH * self.records() as usize + BODY_LENGTH * index as usize
+    }
 
-pub(crate) fn log_length(sizes: Sizes) -> usize
-    ensures { result ≡ log_length sizes.records }
-{
-    SIZES_LENGTH + (HEAD_LENGTH + BODY_LENGTH) * sizes.records() as usize
+    pub(crate) fn log_length(self) -> usize
+        ensures { result ≡ log_length self.records }
+    {
+        SIZES_LENGTH + (HEAD_LENGTH + BODY_LENGTH) * self.records() as usize
+    }
 }

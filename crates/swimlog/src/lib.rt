@@ -20,6 +20,5 @@ pub use kind::Axis;
 pub use layout::MAX_LENGTH;
 pub use log::check_log;
 pub use page::{PAGE_LENGTH, Page};
-pub use place::gate_cell;
 pub use report::{Report, report_page, write_report};
 pub use sizes::{MAX_GATES, Sizes};

@@ -7,7 +7,6 @@ ghost use Rattle.swimlog.specs.Records.{Reads};
 
 use crate::fault::{BadRecord, LogFault, RecordFault};
 use crate::field::two_bytes;
-use crate::layout::log_length;
 use crate::record::read_record;
 use crate::sizes::Sizes;
 use constraint::Constraint;
@@ -42,7 +41,7 @@ impl<'a> Log<'a> {
         ensures { MatchResult result (λ log. log.bytes.now ≡ bytes.now) (λ e. log_fault bytes.now ≡ Some e) }
     {
         let sizes = read_sizes(bytes)?;
-        if bytes.len() != log_length(sizes) {
+        if bytes.len() != sizes.log_length() {
             return Err(LogFault::BadLength);
         }
         Ok(Log { bytes, sizes })

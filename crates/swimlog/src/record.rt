@@ -6,8 +6,7 @@ ghost use Rattle.swimlog.specs.Records.{bounds, ranges, says, made, record_says,
 use crate::fault::{FieldFault, RecordFault};
 use crate::field::{Body, Record, read_body, read_head};
 use crate::kind::{Axis, Kind};
-use crate::layout::{body_start, head_start};
-use crate::place::{gate_cell, is_placed, step_cell};
+use crate::layout::head_start;
 use crate::sizes::Sizes;
 use constraint::{Beacon, Bound, Constraint, Range};
 
@@ -35,11 +34,11 @@ impl Record {
     {
         let place = self.head.p;
         match kind {
-            Kind::Position(axis) => make_bound(number, gate_cell(sizes, axis, place), self.body),
-            Kind::Step(axis) => make_bound(number, step_cell(sizes, axis, place), self.body),
+            Kind::Position(axis) => make_bound(number, sizes.gate_cell(axis, place), self.body),
+            Kind::Step(axis) => make_bound(number, sizes.step_cell(axis, place), self.body),
             Kind::Distance => {
-                let x = gate_cell(sizes, Axis::X, place);
-                let y = gate_cell(sizes, Axis::Y, place);
+                let x = sizes.gate_cell(Axis::X, place);
+                let y = sizes.gate_cell(Axis::Y, place);
                 make_range(number, x, y, self.body)
             }
         }
@@ -49,7 +48,7 @@ impl Record {
         ensures { Reads (record_says sizes.gates number self.head self.body) result }
     {
         let kind = Kind::try_from(self.head)?;
-        if !is_placed(sizes, kind, self) {
+        if !self.is_placed(sizes, kind) {
             return Err(RecordFault::BadPlace);
         }
         self.make(sizes, number, kind)
@@ -61,7 +60,7 @@ pub(crate) fn read_record(bytes: &[u8], sizes: Sizes, index: u16) -> Result<Cons
     ensures { Reads (record_in bytes.now sizes.gates sizes.records index) result }
 {
     let head = read_head(bytes, head_start(index))?;
-    let body = read_body(bytes, body_start(sizes, index))?;
+    let body = read_body(bytes, sizes.body_start(index))?;
     let number = 2 * (sizes.gates() - 1) + index;
     Record { head, body }.constraint(sizes, number)
 }

@@ -3,28 +3,29 @@ ghost use Rattle.std.specs.Prelude.{◌≡◌, ◌+◌, ◌<◌};
 ghost use Rattle.swimlog.specs.Records.{step_number, slice_step, Is};
 
 use crate::kind::Axis;
-use crate::place::{gate_cell, step_cell};
 use crate::sizes::Sizes;
 use constraint::{Constraint, Step};
 
-fn step_number(sizes: Sizes, axis: Axis, slice: u16) -> u16
-    requires { slice + 1 < sizes.gates }
-    ensures { result ≡ step_number sizes.gates axis slice }
-{
-    match axis {
-        Axis::X => slice,
-        Axis::Y => sizes.gates() - 1 + slice,
+impl Sizes {
+    fn step_number(self, axis: Axis, slice: u16) -> u16
+        requires { slice + 1 < self.gates }
+        ensures { result ≡ step_number self.gates axis slice }
+    {
+        match axis {
+            Axis::X => slice,
+            Axis::Y => self.gates() - 1 + slice,
+        }
     }
-}
 
-// The step of a slice on an axis. Its cells always differ, so that it can be made.
-pub(crate) fn slice_step(sizes: Sizes, axis: Axis, slice: u16) -> Constraint
-    requires { slice + 1 < sizes.gates }
-    ensures { Is (slice_step sizes.gates axis slice) result }
-{
-    let from = gate_cell(sizes, axis, slice);
-    let by = step_cell(sizes, axis, slice);
-    let to = gate_cell(sizes, axis, slice + 1);
-    let step = Step::new(step_number(sizes, axis, slice), from, by, to).unwrap();
-    Constraint::Step(step)
+    // The step of a slice on an axis. Its cells always differ, so that it can be made.
+    pub(crate) fn slice_step(self, axis: Axis, slice: u16) -> Constraint
+        requires { slice + 1 < self.gates }
+        ensures { Is (slice_step self.gates axis slice) result }
+    {
+        let from = self.gate_cell(axis, slice);
+        let by = self.step_cell(axis, slice);
+        let to = self.gate_cell(axis, slice + 1);
+        let step = Step::new(self.step_number(axis, slice), from, by, to).unwrap();
+        Constraint::Step(step)
+    }
 }

@@ -10,7 +10,6 @@ use super::Report;
 use crate::fault::LogFault;
 use crate::kind::Axis;
 use crate::page::Page;
-use crate::place::gate_cell;
 use crate::sizes::Sizes;
 use contractor::{Fault, Mark};
 use itoa::{Buffer, Integer};
@@ -65,8 +64,8 @@ fn put_gate(page: &mut Page, sizes: Sizes, tube: &[Row; MAX_CELLS], gate: u16)
     ensures line { page_bytes page.new ≡ page_bytes page.old ++ gate_line sizes.gates tube.now gate }
     ensures short { length (page_bytes page.new) ≤ length (page_bytes page.old) + gate_line_length }
 {
-    let x = tube[gate_cell(sizes, Axis::X, gate)];
-    let y = tube[gate_cell(sizes, Axis::Y, gate)];
+    let x = tube[sizes.gate_cell(Axis::X, gate)];
+    let y = tube[sizes.gate_cell(Axis::Y, gate)];
     put_place_line(page, gate, x, y);
 }
 
