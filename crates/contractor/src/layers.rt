@@ -1,5 +1,5 @@
 // The layers: contractors made of contractors.
-ghost use Rattle.std.specs.Prelude.{◌≡◌, ◌≤◌, true, length};
+ghost use Rattle.std.specs.Prelude.{◌≡◌, ◌+◌, ◌≤◌, max, true, length};
 ghost use Rattle.contractor.specs.Answers.{Placed};
 ghost use Rattle.contractor.specs.Contractors.{Accepted};
 ghost use Rattle.contractor.specs.Layers.{above, capped, either_stopped, leaving};
@@ -45,6 +45,25 @@ fn capped_calls(calls: u64) -> u64
     ensures { result ≡ capped calls }
 {
     calls.min(MAX_CALLS + 1)
+}
+
+// The figures of a layer over two parts, whatever it does with them.
+fn need_over<A: Contractor, B: Contractor>(first: &A, second: &B) -> usize
+    ensures { result ≡ max (A.value first.now).need (B.value second.now).need }
+{
+    first.need().max(second.need())
+}
+
+fn height_over<A: Contractor, B: Contractor>(first: &A, second: &B) -> u8
+    ensures { result ≡ above (max (A.value first.now).height (B.value second.now).height) }
+{
+    height_above(first.height().max(second.height()))
+}
+
+fn ceiling_over<A: Contractor, B: Contractor>(first: &A, second: &B) -> u64
+    ensures { result ≡ capped ((A.value first.now).ceiling + (B.value second.now).ceiling) }
+{
+    capped_calls(first.ceiling() + second.ceiling())
 }
 
 // The mark of two uses that are both kept.

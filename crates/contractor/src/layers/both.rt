@@ -2,7 +2,7 @@
 ghost use Rattle.contractor.specs.Compositions.{both};
 ghost use Rattle.contractor.specs.Composing.{both_keeps};
 
-use super::{capped_calls, either_stopped, height_above, use_part};
+use super::{ceiling_over, either_stopped, height_over, need_over, use_part};
 use crate::answer::{Answer, Verdict};
 use crate::contractor::Contractor;
 use tube::Row;
@@ -24,17 +24,16 @@ impl<A: Contractor, B: Contractor> Contractor for Both<A, B> {
 
     ghost keeps = { λ c. both_keeps _ _ (A.keeps c.first) (B.keeps c.second) };
 
-    // The union has the same figures: each is one line, and a function shared with it would be called by as long a line.
     fn need(&self) -> usize {
-        self.first.need().max(self.second.need())
+        need_over(&self.first, &self.second)
     }
 
     fn height(&self) -> u8 {
-        height_above(self.first.height().max(self.second.height()))
+        height_over(&self.first, &self.second)
     }
 
     fn ceiling(&self) -> u64 {
-        capped_calls(self.first.ceiling() + self.second.ceiling())
+        ceiling_over(&self.first, &self.second)
     }
 
     fn narrow(&mut self, tube: &mut [Row]) -> Answer {

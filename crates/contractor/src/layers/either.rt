@@ -3,7 +3,7 @@ ghost use Rattle.std.specs.Prelude.{◌≡◌, length};
 ghost use Rattle.contractor.specs.Unions.{named_fault, hulls, either};
 ghost use Rattle.contractor.specs.Uniting.{either_keeps};
 
-use super::{capped_calls, either_stopped, height_above, use_part};
+use super::{ceiling_over, either_stopped, height_over, need_over, use_part};
 use crate::answer::{Answer, Fault, Verdict};
 use crate::contractor::Contractor;
 use tube::{MAX_CELLS, Row};
@@ -42,15 +42,15 @@ impl<A: Contractor, B: Contractor> Contractor for Either<A, B> {
     ghost keeps = { λ c. either_keeps _ _ (A.keeps c.first) (B.keeps c.second) };
 
     fn need(&self) -> usize {
-        self.first.need().max(self.second.need())
+        need_over(&self.first, &self.second)
     }
 
     fn height(&self) -> u8 {
-        height_above(self.first.height().max(self.second.height()))
+        height_over(&self.first, &self.second)
     }
 
     fn ceiling(&self) -> u64 {
-        capped_calls(self.first.ceiling() + self.second.ceiling())
+        ceiling_over(&self.first, &self.second)
     }
 
     fn narrow(&mut self, tube: &mut [Row]) -> Answer {
