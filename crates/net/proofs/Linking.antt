@@ -123,7 +123,7 @@ map_cells css j (c ∷ cs) = ap (λ ds. c ∷ ds) (map_cells css j cs)
 -- all records are linked
 module _ (ks : List Constraint) (n : ℕ) (heads : List ℕ) (mentions : List (List Link)) (e : n ≡ length ks) (few : n ≤ most_records) (all : Linking (slots ks) 0 heads mentions) where
   abbrev chains : Chains
-  chains = record { end = n; heads = heads; mentions = mentions }
+  chains = record { count = n; heads = heads; mentions = mentions }
 
   slot_count : length (slots ks) ≡ n
   slot_count = length-map ks cell_slots ∙ sym e
