@@ -58,9 +58,8 @@ impl Chains {
         let mut heads = [count as u16; MAX_CELLS];
         let mut mentions = [[Link { cell: 0, next: 0 }; 3]; MAX_RECORDS];
         // From the last record to the first, so that the heads are always those of the records seen.
-        // By position: over `records.iter().enumerate().rev()` the proof was tried, and did not close.
-        for i in (0..count).rev() {
-            let [a, b, c] = records[i].cells();
+        for (i, record) in records.iter().enumerate().rev() {
+            let [a, b, c] = record.cells();
             mentions[i] = [
                 Link {
                     cell: a,
