@@ -1,11 +1,11 @@
 -- The queue while records join it, as the invariant of the loop that lets them. Assumes nothing.
-use Rattle.std.proofs.Common.{◌≡◌, ℕ, ◌+◌, ◌<◌, ◌≤◌, true, false, eqb, List, [], ◌∷◌, ◌++◌, length, drop, sym, refl, ap, ◌∙◌, append_assoc, append-nil, arith}
+use Rattle.std.proofs.Common.{◌≡◌, ℕ, ◌+◌, ◌<◌, ◌≤◌, true, false, eqb, List, [], ◌∷◌, ◌++◌, length, drop, sym, refl, ap, ◌∙◌, append_assoc, arith}
 use Rattle.std.proofs.lemmas.Bool.{cond-true, cond-false, cond_both, ne_eqb}
 use Rattle.net.specs.Nets.{among, waits, joining}
 use Rattle.net.specs.Chains.{least_after}
 use Rattle.net.specs.Queues.{joined_by}
 use Rattle.net.proofs.Apart.{waits_push}
-use Rattle.net.specs.Cursors.{joining_next, joining_turn, joining_end, least_from, least_length}
+use Rattle.net.specs.Cursors.{joining_next, joining_turn, least_from, least_length}
 
 -- The queue was q as the joining began, and is s now. Those before position i have joined, those from i on have still to.
 pub record Joined (css : List (List ℕ)) (cs q : List ℕ) (i : ℕ) (s : List ℕ) : Type 0 where
@@ -52,7 +52,3 @@ module _ (css : List (List ℕ)) (cs q : List ℕ) (i : ℕ) (s : List ℕ) (inv
     rest = ap (λ r. s ++ r) (sym (joining_next css cs q i inv.within)) ∙ inv.rest;
     waiting = λ j h. inv.waiting j (omega (arith, least_from css cs i inv.within));
   }
-
-  -- no cursor is left
-  pub joined_end : length css ≤ least_after css cs i → s ≡ q ++ joining css 0 q (λ c. among c cs)
-  joined_end past = sym (append-nil s) ∙ ap (λ r. s ++ r) (sym (joining_end css cs q i inv.within past)) ∙ inv.rest

@@ -105,5 +105,5 @@ module _ (css : List (List ℕ)) (a b c : Option ℕ) where
           omega (arith, least_stands (next + 1), least_from css those (next + 1) (omega arith))
 
 -- the number of records, where the chains end
-pub end_is : (css : List (List ℕ)) (ch : Chains) → slots_of ch ≡ css → Chained (slots_of ch) ch → ch.end ≡ length css
+pub end_is : (css : List (List ℕ)) (ch : Chains) → slots_of ch ≡ css → Chained (slots_of ch) ch → ch.count ≡ length css
 end_is css ch e known = known.count ∙ ap length e

@@ -19,7 +19,7 @@ no_mention = []
 
 -- what the records mention, as it is stored
 abbrev pub slots_of : Chains → List (List ℕ)
-slots_of ch = map (map (λ l. l.cell)) (take ch.end ch.mentions)
+slots_of ch = map (map (λ l. l.cell)) (take ch.count ch.mentions)
 
 -- the heads are the first records from position i on that mention each cell
 abbrev pub Heads : List (List ℕ) → ℕ → List ℕ → Type 0
@@ -34,7 +34,7 @@ abbrev pub Links : List (List ℕ) → ℕ → List (List Link) → Type 0
 Links css i mentions = (j : ℕ) → i ≤ j → j < length css → slice_index_or mentions j no_mention ≡ linked css j (slice_index_or css j [])
 
 pub record Chained (css : List (List ℕ)) (ch : Chains) : Type 0 where
-  pub count : ch.end ≡ length css
+  pub count : ch.count ≡ length css
   pub few : length css ≤ most_records
   pub three : (j : ℕ) → j < length css → length (slice_index_or css j []) ≡ 3
   pub heads : Heads css 0 ch.heads

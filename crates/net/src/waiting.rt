@@ -69,9 +69,9 @@ impl Waiting {
             return None;
         }
         let first = self.ring[self.head];
-        self.marks[first as usize] = false;
         self.head = (self.head + 1) % MAX_RECORDS;
         self.count -= 1;
+        self.marks[first as usize] = false;
         Some(first)
     }
 
@@ -84,8 +84,8 @@ impl Waiting {
             return;
         }
         let end = (self.head + self.count) % MAX_RECORDS;
+        self.count += 1;
         self.ring[end] = position;
         self.marks[position as usize] = true;
-        self.count += 1;
     }
 }
