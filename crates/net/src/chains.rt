@@ -124,7 +124,7 @@ impl Chains {
         requires mentioned { cursor.at ≡ position → among cursor.cell (slice_index_or self.now position []) ≡ true }
         ensures { result ≡ passed self.now cursor position }
     {
-        // The position first: LLVM then goes on with it, which is an index already, and not with the cursor's copy.
+        // The position first: LLVM then goes on with it, which is an index already. The other way round a use takes 180 instructions in place of 178.
         if position == cursor.at {
             Cursor {
                 at: self.following(position, cursor.cell),
