@@ -23,6 +23,12 @@ cells_placed (of_range k) =
     let r = ranged_from k.x k.y k.beacon.x k.beacon.y k.distances.nearest k.distances.farthest k.placed in
     (leb-true _ _ r.x_cell, (leb-true _ _ r.y_cell, tt))
 
+-- each is a cell of every tube that the constraint can be used on
+pub cells_needed : (k : Constraint) → AllByRecursion (λ c. c < (constraint_value k).need) (constraint_cells k)
+cells_needed (of_bound k) = (omega arith, tt)
+cells_needed (of_step k) = (omega arith, (omega arith, (omega arith, tt)))
+cells_needed (of_range k) = (omega arith, (omega arith, tt))
+
 module _ (t : List Row) (d : ℕ) where
   -- a use left the cell as it was
   abbrev Untouched : Narrowed → Type 0

@@ -19,6 +19,7 @@ fn row(low: i32, high: i32) -> Row {
     Row { low, high }
 }
 
+// The tests of logs have the like. The two crates share the library alone, and three such lines need no crate of their own.
 fn bound(number: u16, cell: usize, low: i32, high: i32) -> Result<Constraint, MakingFault> {
     Ok(Constraint::Bound(Bound::new(number, cell, low, high)?))
 }

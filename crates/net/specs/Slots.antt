@@ -1,28 +1,41 @@
 -- The cells that a constraint mentions, in three slots. Assumes nothing.
-use Rattle.std.specs.Prelude.{◌≡◌, ℕ, ◌+◌, ◌<◌, Bool, true, false, cond, not, ◌&&◌, ◌||◌, ◌≢◌, List, [], ◌∷◌, map, Option, ◌==◌, nat_eq, refl}
-use Rattle.std.proofs.Common.{sym, ap, subst, ◌∙◌, arith}
-use Rattle.std.specs.Bool.{then_some}
+use Rattle.std.specs.Prelude.{◌≡◌, ℕ, ◌+◌, Bool, true, false, cond, not, ◌&&◌, ◌||◌, ◌≢◌, List, [], ◌∷◌, map, length, get_or, ◌==◌, nat_eq, slice_index_or, refl, ◌<◌, Option}
+use Rattle.std.proofs.Common.{sym, ap, ap₂, ◌∙◌, arith, subst}
 use Rattle.std.specs.List.{AllByRecursion}
 use Rattle.std.proofs.lemmas.Bool.{eqb-true, eqb-false, or_parts}
-use Rattle.tube.specs.Tubes.{most_cells, cell}
+use Rattle.tube.specs.Tubes.{most_cells, cell, nowhere}
 use Rattle.tube.specs.declared.row.Row.{Row}
+use Rattle.contractor.specs.Contractors.{Accepted}
 use Rattle.contractor.specs.Repetitions.{same_row}
+use Rattle.contractor.specs.Accepting.{accepted_facts}
 use Rattle.constraint.specs.Kinds.{constraint_value}
 use Rattle.constraint.specs.Mentions.{constraint_cells, cell_slots}
 use Rattle.constraint.specs.declared.constraint.Constraint.{Constraint}
 use Rattle.constraint.specs.declared.constraint.Constraint.TheVariants.{Bound as of_bound, Step as of_step, Range as of_range}
 use Rattle.constraint.proofs.Confined.{cells_placed, constraint_confined}
-use Rattle.net.specs.Nets.{narrower, if_narrower, some_cell, among, joining, mentions}
+use Rattle.net.specs.Nets.{narrower, some_cell, among, joining, mentions, if_narrower}
 use Rattle.net.specs.Chains.{counted}
 use Rattle.net.specs.Links.{slots, slot, Three, InTable}
 use Rattle.net.specs.Records.{parts}
 use Rattle.net.specs.QueuesLemmas.{same_row_same}
+use Rattle.std.specs.Bool.{then_some}
 
 -- the slots are cells of every tube that is long enough
 pub three_slots : (k : Constraint) → Three most_cells (cell_slots k)
 three_slots (of_bound k) = let p = cells_placed (of_bound k) in record { are = refl; first = omega arith; second = omega arith; third = omega arith }
 three_slots (of_step k) = let p = cells_placed (of_step k) in record { are = refl; first = omega arith; second = omega arith; third = omega arith }
 three_slots (of_range k) = let p = cells_placed (of_range k) in record { are = refl; first = omega arith; second = omega arith; third = omega arith }
+
+pub three_needed : (k : Constraint) → Three (constraint_value k).need (cell_slots k)
+three_needed (of_bound k) = record { are = refl; first = omega arith; second = omega arith; third = omega arith }
+three_needed (of_step k) = record { are = refl; first = omega arith; second = omega arith; third = omega arith }
+three_needed (of_range k) = record { are = refl; first = omega arith; second = omega arith; third = omega arith }
+
+pub three_within : (k : Constraint) (t : List Row) → Accepted (constraint_value k) t → Three (length t) (cell_slots k)
+three_within k t a =
+    let need = (accepted_facts (constraint_value k) t a).need in
+    let three = three_needed k in
+    record { are = three.are; first = omega arith; second = omega arith; third = omega arith }
 
 or_again : (x y : Bool) → (x || (x || y)) ≡ (x || y)
 or_again true y = refl
@@ -94,3 +107,13 @@ pub narrower_in : (t u : List Row) (cs : List ℕ) → Three most_cells cs → A
 narrower_in t u cs three =
     subst (λ ds. AllByRecursion InTable (map (if_narrower t u) ds)) (sym three.are)
     (some_in (narrower t u (slot cs 0)) _ three.first, (some_in (narrower t u (slot cs 1)) _ three.second, (some_in (narrower t u (slot cs 2)) _ three.third, tt)))
+
+-- three rows before and after, compared
+pub compared : (t u : List Row) (n : ℕ) (cs : List ℕ) (before after : List Row) (a b c : Bool) → Three n cs → before ≡ map (cell t) cs → after ≡ map (cell u) cs → a ≡ same_row (slice_index_or before 0 nowhere) (slice_index_or after 0 nowhere) → b ≡ same_row (slice_index_or before 1 nowhere) (slice_index_or after 1 nowhere) → c ≡ same_row (slice_index_or before 2 nowhere) (slice_index_or after 2 nowhere) → not a ∷ not b ∷ not c ∷ [] ≡ map (narrower t u) cs
+compared t u n cs before after a b c three eb ea first second third =
+    let row : (s : ℕ) → List Row → List ℕ → Row = λ s w ds. get_or (map (cell w) ds) s nowhere in
+    let x : not a ≡ narrower t u (slot cs 0) = ap not (first ∙ ap₂ same_row (ap (λ r. get_or r 0 nowhere) eb ∙ ap (row 0 t) three.are) (ap (λ r. get_or r 0 nowhere) ea ∙ ap (row 0 u) three.are)) in
+    let y : not b ≡ narrower t u (slot cs 1) = ap not (second ∙ ap₂ same_row (ap (λ r. get_or r 1 nowhere) eb ∙ ap (row 1 t) three.are) (ap (λ r. get_or r 1 nowhere) ea ∙ ap (row 1 u) three.are)) in
+    let z : not c ≡ narrower t u (slot cs 2) = ap not (third ∙ ap₂ same_row (ap (λ r. get_or r 2 nowhere) eb ∙ ap (row 2 t) three.are) (ap (λ r. get_or r 2 nowhere) ea ∙ ap (row 2 u) three.are)) in
+    let all : not a ∷ not b ∷ not c ∷ [] ≡ map (narrower t u) (slot cs 0 ∷ slot cs 1 ∷ slot cs 2 ∷ []) = cc in
+    all ∙ ap (map (narrower t u)) (sym three.are)

@@ -8,13 +8,13 @@ use tube::MakingFault;
 
 mod words;
 
-#[derive(Clone, Copy, Debug, PartialEq)]
+#[derive(Clone, Copy, Debug, Eq, PartialEq)]
 pub enum FieldFault {
     // The bytes end before the field does.
     CutOff,
 }
 
-#[derive(Clone, Copy, Debug, PartialEq)]
+#[derive(Clone, Copy, Debug, Eq, PartialEq)]
 pub enum RecordFault {
     // The bytes end before the record does.
     CutOff,
@@ -27,13 +27,13 @@ pub enum RecordFault {
 }
 
 // A record's fault, with the record that has it.
-#[derive(Clone, Copy, Debug, PartialEq)]
+#[derive(Clone, Copy, Debug, Eq, PartialEq)]
 pub struct BadRecord {
     pub index: u16,
     pub fault: RecordFault,
 }
 
-#[derive(Clone, Copy, Debug, PartialEq)]
+#[derive(Clone, Copy, Debug, Eq, PartialEq)]
 pub enum LogFault {
     // Fewer than four bytes, or a size outside its limits.
     BadSizes,

@@ -5,7 +5,7 @@ ghost use Rattle.swimlog.specs.Format.{byte_at, two_bytes_at, number_at, head_le
 use crate::fault::FieldFault;
 
 // What stands in a record's head.
-#[derive(Clone, Copy, Debug, PartialEq)]
+#[derive(Clone, Copy, Debug, Eq, PartialEq)]
 pub struct Head {
     pub kind: u8,
     pub axis: u8,
@@ -14,7 +14,7 @@ pub struct Head {
 }
 
 // What stands in a record's body.
-#[derive(Clone, Copy, Debug, PartialEq)]
+#[derive(Clone, Copy, Debug, Eq, PartialEq)]
 pub struct Body {
     pub b0: i32,
     pub b1: i32,
@@ -25,7 +25,7 @@ pub struct Body {
 }
 
 // A record as it stands in a log, its head among the heads and its body among the bodies.
-#[derive(Clone, Copy, Debug, PartialEq)]
+#[derive(Clone, Copy, Debug, Eq, PartialEq)]
 pub struct Record {
     pub head: Head,
     pub body: Body,

@@ -7,13 +7,13 @@ ghost use Rattle.swimlog.specs.declared.fault.RecordFault.TheVariants.{UnknownKi
 use crate::fault::RecordFault;
 use crate::field::Head;
 
-#[derive(Clone, Copy, Debug, PartialEq)]
+#[derive(Clone, Copy, Debug, Eq, PartialEq)]
 pub enum Axis {
     X,
     Y,
 }
 
-#[derive(Clone, Copy, Debug, PartialEq)]
+#[derive(Clone, Copy, Debug, Eq, PartialEq)]
 pub enum Kind {
     // A position at a gate.
     Position(Axis),

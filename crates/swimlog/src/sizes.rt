@@ -8,7 +8,7 @@ pub const MAX_GATES: u16 = 128;
 // The most records that a log has.
 pub const MAX_RECORDS: u16 = 256;
 
-#[derive(Clone, Copy, Debug, PartialEq)]
+#[derive(Clone, Copy, Debug, Eq, PartialEq)]
 pub struct Sizes {
     gates: u16,
     records: u16,

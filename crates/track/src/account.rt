@@ -8,7 +8,7 @@ use crate::refusal::TrackRefusal;
 use tube::Row;
 
 // The length of the tables, the most calls that may be charged, and the calls charged so far.
-#[derive(Clone, Copy, Debug, PartialEq)]
+#[derive(Clone, Copy, Debug, Eq, PartialEq)]
 pub(crate) struct Account {
     pub(crate) cells: usize,
     pub(crate) allowance: u64,

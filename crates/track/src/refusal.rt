@@ -6,7 +6,7 @@ use contractor::UseRefusal;
 use std::error::Error;
 use std::fmt;
 
-#[derive(Clone, Copy, Debug, PartialEq)]
+#[derive(Clone, Copy, Debug, Eq, PartialEq)]
 pub enum TrackRefusal {
     // The table is no tube, or has fewer cells than the contractor needs.
     NotATube = 7,

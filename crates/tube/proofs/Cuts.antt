@@ -38,6 +38,12 @@ cut_is r low high = by_order r low high (le_z (int_max r.low low) (int_min r.hig
 pub same_cut : (r : Row) (low low' high high' : ℤ) → low ≡ low' → high ≡ high' → cut r low high ≡ cut r low' high'
 same_cut r low low' high high' l h = ap (λ x. cut r x high) l ∙ ap (cut r low') h
 
+-- a number that is cut and left lies between the ends
+pub cut_one : (v low high : ℤ) (s : Row) → Cut (row v v) low high s → (low ≤ℤ v) × (v ≤ℤ high)
+cut_one v low high s k =
+    let w = k.within in
+    (omega (arith, ints, k.ordered, k.above), omega (arith, ints, k.ordered, k.below))
+
 -- a row that lies between the ends is left whole
 pub cut_whole : (r : Row) (low high : ℤ) → r.low ≤ℤ r.high → low ≤ℤ r.low → r.high ≤ℤ high → cut r low high ≡ Some r
 unfolding cut
