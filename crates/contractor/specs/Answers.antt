@@ -1,8 +1,9 @@
 -- The answers of a use, each built here alone, and what they say. Assumes nothing.
-use Rattle.std.specs.Prelude.{ℕ, ◌^◌, ◌<◌}
+use Rattle.std.specs.Prelude.{ℕ, ◌^◌, ◌<◌, List, codes}
 use Rattle.contractor.specs.declared.answer.Answer.{Answer}
 use Rattle.contractor.specs.declared.answer.Fault.{Fault}
 use Rattle.contractor.specs.declared.answer.Mark.{Mark}
+use Rattle.contractor.specs.declared.answer.Mark.TheVariants.{Settled, Stopped}
 use Rattle.contractor.specs.declared.answer.Verdict.{Verdict}
 use Rattle.contractor.specs.declared.answer.Verdict.TheVariants.{Kept, Empty}
 
@@ -26,3 +27,8 @@ IsEmpty (Empty f) = Unit {0}
 abbrev pub Placed : ℕ → ℕ → Verdict → Type 0
 Placed height n (Kept m) = Unit {0}
 Placed height n (Empty f) = (f.path < 8 ^ height) × (f.cell < n)
+
+-- a mark in words
+abbrev pub word : Mark → List ℕ
+word Settled = codes "settled"
+word Stopped = codes "stopped"

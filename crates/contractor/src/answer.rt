@@ -1,8 +1,10 @@
 // What a use of a contractor answers.
-ghost use Rattle.std.specs.Prelude.{◌≡◌, ◌+◌, ◌*◌, ◌-◌, ◌^◌, ◌<◌, ◌≤◌};
-ghost use Rattle.contractor.specs.Answers.{kept, emptied};
+ghost use Rattle.std.specs.Prelude.{◌≡◌, ◌+◌, ◌*◌, ◌-◌, ◌^◌, ◌<◌, ◌≤◌, Some};
+ghost use Rattle.contractor.specs.Answers.{kept, emptied, word};
 ghost use Rattle.contractor.specs.declared.answer.Mark.TheVariants.{Settled};
 ghost use Rattle.contractor.specs.Layers.{passed_up};
+
+use std::fmt;
 
 // Why a tube holds no trajectory of a relation: the kind of the constraint that said so, its number, the cell where nothing is left,
 // and the way through the layers down to it, a digit in base 8 for each layer, the outermost last.
@@ -28,14 +30,25 @@ impl Fault {
     }
 }
 
-// Settled, or stopped: work was left when an allowance of uses or of rounds ran out.
-#[derive(Clone, Copy, Debug, Eq, PartialEq)]
+// Settled, or stopped: work was left when an allowance of uses or of rounds ran out. Of two marks the greater one tells of both.
+#[derive(Clone, Copy, Debug, Eq, Ord, PartialEq, PartialOrd)]
 pub enum Mark {
     Settled,
     Stopped,
 }
 
-// Not a Result: that nothing is left is an answer as good as the other, the calls stand beside either, and no `?` may pass it by.
+impl fmt::Display for Mark {
+    ghost output = { λ m. Some (word m) };
+
+    fn fmt<W: fmt::Write>(&self, f: &mut fmt::Formatter<W>) -> fmt::Result {
+        f.write_str(match self {
+            Mark::Settled => "settled",
+            Mark::Stopped => "stopped",
+        })
+    }
+}
+
+// Not a Result: `Err` would name an answer as good as `Ok`, and a `?` would drop the calls that stand beside it.
 #[derive(Clone, Copy, Debug, Eq, PartialEq)]
 pub enum Verdict {
     Kept(Mark),

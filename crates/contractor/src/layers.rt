@@ -70,8 +70,5 @@ fn ceiling_over<A: Contractor, B: Contractor>(first: &A, second: &B) -> u64
 fn either_stopped(first: Mark, second: Mark) -> Mark
     ensures { result ≡ either_stopped first second }
 {
-    match first {
-        Mark::Settled => second,
-        Mark::Stopped => Mark::Stopped,
-    }
+    first.max(second)
 }

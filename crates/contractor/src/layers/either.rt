@@ -30,7 +30,7 @@ fn widen(table: &mut [Row], other: &[Row])
     requires { length other.now ≡ length table.old }
     ensures { table.new ≡ hulls other.now table.old }
 {
-    // Not a zip of both: the check learns nothing of rows that are written through an adapter of iter_mut.
+    // Not a zip of both: of rows that are written through the zip of an iter_mut the check learns nothing.
     for (i, row) in other.iter().enumerate() {
         table[i] = row.hull(table[i]);
     }
