@@ -2,11 +2,9 @@
 ghost use Rattle.std.specs.Prelude.{◌≡◌, ◌<◌, true, length};
 ghost use Rattle.tube.specs.Intervals.{row_of};
 ghost use Rattle.tube.specs.Tubes.{is_tube, cell};
+ghost use Rattle.constraint.specs.Constraints.{lies_between};
 
 use tube::{Interval, Row};
-
-// The last cell that a tube can have.
-pub(crate) const LAST_CELL: usize = 511;
 
 // A cell of a tube. That its row is an interval is known of every tube, so nothing is tested.
 // That the table is a tube is asked for and not told by a type: tables are the caller's slices, and a type round one would be made anew for every use of every part.
@@ -20,4 +18,11 @@ pub(crate) fn interval_at(tube: &[Row], index: u16) -> Interval
         low: row.low,
         high: row.high,
     }
+}
+
+// Whether an interval lies between two numbers, so that they cut nothing off it.
+pub(crate) fn lies_between(own: Interval, ends: Row) -> bool
+    ensures { result ≡ lies_between (row_of own) ends.low ends.high }
+{
+    ends.low <= own.low && own.high <= ends.high
 }

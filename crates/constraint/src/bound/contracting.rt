@@ -5,9 +5,9 @@ ghost use Rattle.constraint.specs.Mentions.{bound_cells, in_slots};
 ghost use Rattle.constraint.specs.Keeping.{bound_value_keeps};
 
 use super::Bound;
-use crate::cells::{LAST_CELL, interval_at};
+use crate::cells::{interval_at, lies_between};
 use contractor::{Answer, Contractor};
-use tube::{Interval, MakingFault, Row};
+use tube::{Interval, MAX_CELLS, MakingFault, Row};
 
 impl Bound {
     // The cause by which its faults tell that it is a bound.
@@ -16,7 +16,7 @@ impl Bound {
     pub fn new(number: u16, cell: usize, low: i32, high: i32) -> Result<Self, MakingFault>
         ensures { MadeBound number cell low high result }
     {
-        if cell > LAST_CELL {
+        if cell >= MAX_CELLS {
             return Err(MakingFault::CellBeyondTube);
         }
         let span = Interval::new(low, high)?;
@@ -55,7 +55,7 @@ impl Contractor for Bound {
     fn narrow(&mut self, tube: &mut [Row]) -> Answer {
         let held = interval_at(tube, self.cell);
         // Most uses narrow nothing, and then nothing is written.
-        if self.span.low <= held.low && held.high <= self.span.high {
+        if lies_between(held, Row::from(self.span)) {
             return Answer::settled();
         }
         let Some(left) = held.cut(self.span.low, self.span.high) else {

@@ -7,10 +7,10 @@ ghost use Rattle.constraint.specs.Keeping.{range_value_keeps};
 
 use super::{Beacon, Range};
 use crate::axis::Axis;
-use crate::cells::{LAST_CELL, interval_at};
+use crate::cells::interval_at;
 use crate::distances::Distances;
 use contractor::{Answer, Contractor};
-use tube::{Interval, MakingFault, Row};
+use tube::{Interval, MAX_CELLS, MakingFault, Row};
 
 impl Range {
     // The cause by which its faults tell that it is a range.
@@ -26,7 +26,7 @@ impl Range {
     ) -> Result<Self, MakingFault>
         ensures { MadeRange number x y beacon.x beacon.y nearest farthest result }
     {
-        if x > LAST_CELL || y > LAST_CELL {
+        if x >= MAX_CELLS || y >= MAX_CELLS {
             return Err(MakingFault::CellBeyondTube);
         }
         if x == y {

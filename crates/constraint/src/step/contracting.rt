@@ -5,10 +5,10 @@ ghost use Rattle.constraint.specs.Mentions.{step_cells, in_slots};
 ghost use Rattle.constraint.specs.Keeping.{step_value_keeps};
 
 use super::Step;
-use crate::cells::{LAST_CELL, interval_at};
+use crate::cells::interval_at;
 use crate::sum::{Summed, all_fit};
 use contractor::{Answer, Contractor};
-use tube::{MakingFault, Row};
+use tube::{MAX_CELLS, MakingFault, Row};
 
 impl Step {
     // The cause by which its faults tell that it is a step.
@@ -17,7 +17,7 @@ impl Step {
     pub fn new(number: u16, from: usize, by: usize, to: usize) -> Result<Self, MakingFault>
         ensures { MadeStep number from by to result }
     {
-        if from > LAST_CELL || by > LAST_CELL || to > LAST_CELL {
+        if from >= MAX_CELLS || by >= MAX_CELLS || to >= MAX_CELLS {
             return Err(MakingFault::CellBeyondTube);
         }
         if from == by || from == to || by == to {
