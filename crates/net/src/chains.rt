@@ -19,8 +19,8 @@ struct Link {
     next: u16,
 }
 
-// Each record has three slots. Where a chain ends, the number of records stands.
-// No heap and fixed memory, so the chains are positions in arrays.
+// Each record has three slots. Where a chain ends, the number of records stands, and no Option: the least of three cursors is then a plain minimum.
+// No heap and fixed memory, so the chains are positions in arrays, and their length stands beside them.
 #[derive(Drop)]
 pub(crate) struct Chains {
     // Not the u16 that it is read as: tried, and a start then loads from one of two places, and a use takes 204 instructions in place of 178.

@@ -12,7 +12,7 @@ ghost use Rattle.net.specs.Uses.{UseOf};
 use crate::chains::Chains;
 use crate::waiting::Waiting;
 use constraint::Constraint;
-use contractor::{Answer, Contractor, Verdict};
+use contractor::{Answer, Contractor, Mark, Verdict};
 use tube::Row;
 
 // The digit that a fault's path gets on its way up.
@@ -81,18 +81,15 @@ pub(crate) fn run(records: &[Constraint], allowance: u64, tube: &mut [Row]) -> A
 {
     let chains = Chains::of(records);
     let mut waiting = Waiting::all(records.len());
-    let mut calls = 0;
-    // Counted by hand: a `for` would spell the answer at three ends, with `calls`, `calls + 1` and `allowance`.
-    while calls < allowance {
+    for calls in 0..allowance {
         let Some(position) = waiting.take_first() else {
-            break;
+            return Answer::kept(Mark::Settled, calls);
         };
         let used = use_on(records[position as usize], tube);
-        calls += 1;
         match used.verdict {
             Verdict::Kept(_) => chains.wake(&mut waiting, used.narrower),
-            Verdict::Empty(fault) => return Answer::empty(fault.passed_up(DIGIT), calls),
+            Verdict::Empty(fault) => return Answer::empty(fault.passed_up(DIGIT), calls + 1),
         }
     }
-    Answer::kept(waiting.mark(), calls)
+    Answer::kept(waiting.mark(), allowance)
 }

@@ -8,7 +8,7 @@ use contractor::Mark;
 use std::marker::Model;
 
 // A ring of positions in the net's list, and a mark for each record that stands in it.
-// No heap and fixed memory, so both are arrays as long as the largest net.
+// No heap and fixed memory, so both are arrays as long as the largest net: the ring of the kit has a heap.
 #[derive(Drop)]
 pub(crate) struct Waiting {
     ring: [u16; MAX_RECORDS],

@@ -34,7 +34,7 @@ impl Account {
         self.charged += calls;
     }
 
-    // Whether one table may be copied to the other, or why not.
+    // Whether one table may be copied to the other, or why not. Both are the caller's and lent to one call, so no struct holds the two.
     pub(crate) fn check_copy(self, committed: &[Row], work: &[Row]) -> Result<(), TrackRefusal>
         ensures { result_err result ≡ copy_refusal self.cells committed.now work.now }
     {

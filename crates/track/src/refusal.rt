@@ -56,6 +56,7 @@ impl fmt::Display for TrackRefusal {
 
 impl Error for TrackRefusal {}
 
+// Cases of its own and not a UseRefusal inside: a first table that is no tube is refused with no use.
 impl From<UseRefusal> for TrackRefusal {
     ghost from_gives = { λ e r. r ≡ of_use e };
 

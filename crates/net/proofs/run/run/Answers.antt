@@ -1,13 +1,11 @@
-use Rattle.std.proofs.Common.{◌≡◌, ◌+◌, sym, ap, ◌∙◌, subst, arith}
+use Rattle.std.proofs.Common.{◌≡◌, ◌+◌, [], sym, refl, ap, ap₂, ◌∙◌, subst, arith}
 use Rattle.std.specs.List.{AllByRecursion}
 use Rattle.contractor.specs.Answers.{kept, emptied}
 use Rattle.contractor.specs.Layers.{leaving}
 use Rattle.net.specs.Links.{InTable}
-use Rattle.net.specs.Nets.{rest_mark}
 use Rattle.net.specs.Running.{running_start, running_settled, running_over, first_accepted, running_more, running_empty, short_path, joined_after}
 use Rattle.net.specs.Slots.{three_slots, narrower_in}
 use Rattle.net.proofs.run.run.Goals as goal
-use Rattle.net.proofs.run.run.Goals.{else-loop-calls-test, then-loop-calls-test+in_default}
 
 pub loop-calls-init : goal.loop-calls-init
 loop-calls-init c = running_start c.args.records.now c.args.allowance c.args.tube.now _ c.all-waiting.ensures c.requires.tube c.requires.need
@@ -31,13 +29,14 @@ returns-in-Empty c =
     ap (λ a. leaving a c.use_on-used.new.tube) (c.empty.ensures ∙ ap (λ f. emptied f (c.loop-calls.calls + 1)) (c.passed_up.ensures.room (omega arith)))
     ∙ running_empty _ _ _ _ _ _ c.loop-calls.invariant _ _ c.in-Some.ensures k c.index-records-position.is (omega arith) c.use_on-used.new.tube c.use_on-used.result c.use_on-used.ensures c.in-Empty.fault c.in-Empty.is
 
+pub returns-in_default : goal.returns-in_default
+returns-in_default c =
+    ap (λ a. leaving a c.loop-calls.tube) c.kept.ensures
+    ∙ running_settled _ _ _ _ _ _ c.loop-calls.invariant [] c.in_default.ensures.0 refl
+
 pub returns : goal.returns
 returns c =
     let tube = c.loop-calls.tube in
-    let calls = c.loop-calls.calls in
-    let told : leaving c.kept.result tube ≡ leaving (kept (rest_mark c.loop-calls-test.waiting) calls) tube =
-    ap (λ a. leaving a tube) (c.kept.ensures ∙ ap (λ m. kept m calls) c.mark.ensures) in
-    elim c.loop-calls-test.branch [
-      | else-loop-calls-test w ↦ told ∙ ap (λ x. leaving (kept (rest_mark x) calls) tube) w.waiting-is ∙ running_over _ _ _ _ _ _ c.loop-calls.invariant w.loop-calls-test.false
-      | then-loop-calls-test+in_default w ↦ told ∙ running_settled _ _ _ _ _ _ c.loop-calls.invariant _ w.in_default.ensures.0 (w.waiting-is ∙ w.in_default.ensures.1)
-    ]
+    let at_end : c.args.allowance ≡ c.loop-calls.calls = omega (arith, c.loop-calls.invariant.within, c.loop-calls-test.false) in
+    ap (λ a. leaving a tube) (c.kept-2.ensures ∙ ap₂ kept c.mark.ensures at_end)
+    ∙ running_over _ _ _ _ _ _ c.loop-calls.invariant c.loop-calls-test.false
