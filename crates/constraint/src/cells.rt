@@ -6,6 +6,8 @@ ghost use Rattle.constraint.specs.Constraints.{lies_between};
 
 use tube::{Interval, Row};
 
+// Constraints have their cells as plain numbers, and say in their own types that they are cells: a step's and a range's differ besides, so that a type for one cell would not say it all.
+
 // A cell of a tube. That its row is an interval is known of every tube, so nothing is tested.
 // That the table is a tube is asked for and not told by a type: tables are the caller's slices, and a type round one would be made anew for every use of every part.
 pub(crate) fn interval_at(tube: &[Row], index: u16) -> Interval

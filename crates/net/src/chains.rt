@@ -140,6 +140,7 @@ impl Chains {
         requires { AllByRecursion InTable narrower }
         ensures { waiting.new ≡ waiting.old ++ joining self.now 0 waiting.old (λ c. among c (counted narrower)) }
     {
+        // A walk along three chains at once, which counts nothing.
         let [a, b, c] = narrower;
         let mut first = self.start(a);
         let mut second = self.start(b);
