@@ -42,7 +42,8 @@ fn bytes_at<const N: usize>(bytes: &[u8], at: usize) -> Result<[u8; N], FieldFau
 fn byte(bytes: &[u8], at: usize) -> Result<u8, FieldFault>
     ensures { result ≡ field bytes.now (at + 1) (byte_at bytes.now at) }
 {
-    bytes.get(at).copied().ok_or(FieldFault::CutOff)
+    let [byte] = bytes_at::<1>(bytes, at)?;
+    Ok(byte)
 }
 
 pub(crate) fn two_bytes(bytes: &[u8], at: usize) -> Result<u16, FieldFault>

@@ -1,6 +1,5 @@
 // The report's bytes, put on a page. A function that puts a part asks for the room that it fills, and one that makes the page of a whole report shows that there is enough.
 ghost use Rattle.std.specs.Prelude.{◌≡◌, ◌+◌, ◌*◌, ◌<◌, ◌≤◌, [], ◌∷◌, ◌++◌, map, length, codes, decimal};
-ghost use Rattle.std.specs.Fmt.{signed_decimal};
 ghost use Rattle.swimlog.specs.Limits.{most_gates};
 ghost use Rattle.swimlog.specs.Pages.{page_bytes, Spare, Room};
 ghost use Rattle.swimlog.specs.Report.{Written, space, line_end, spaced, line, mark_word, place_fields, gate_line, gate_lines, kept_bytes, empty_bytes, refused_bytes, report_bytes};
