@@ -46,7 +46,7 @@ fn byte(bytes: &[u8], at: usize) -> Result<u8, FieldFault>
     Ok(byte)
 }
 
-// Beside number(), and not one generic function: std has no trait with from_le_bytes, only the method of each integer type.
+// Not one generic function with number(): std has no trait with from_le_bytes. That of num_traits answers T.of_le_bytes, and each call would have to show what that is.
 pub(crate) fn two_bytes(bytes: &[u8], at: usize) -> Result<u16, FieldFault>
     ensures { result ≡ field bytes.now (at + 2) (two_bytes_at bytes.now at) }
 {
