@@ -1,10 +1,10 @@
 -- From the parts of a check to the fault of the whole log. Assumes nothing.
-use Rattle.std.proofs.Common.{◌≡◌, ℕ, ◌<◌, true, false, eqb, leb, List, length, IfErr, IsOk, MatchResult, Some, None, Ok, Err, Result, sym, refl, ap, ◌∙◌, subst, arith}
+use Rattle.std.proofs.Common.{◌≡◌, ℕ, ◌+◌, ◌<◌, true, false, eqb, leb, List, length, IfErr, IsOk, MatchResult, Some, None, Ok, Err, Option, Result, sym, refl, ap, ◌∙◌, subst, add-one, arith}
 use Rattle.std.proofs.lemmas.Bool.Decides.{nat_tests}
 use Rattle.constraint.specs.declared.constraint.Constraint.{Constraint}
 use Rattle.swimlog.specs.Format.{sizes_length, gates_of, records_of, log_length}
 use Rattle.swimlog.specs.Limits.{are_sizes}
-use Rattle.swimlog.specs.Logs.{record_fault, earliest_fault, has_sizes, log_fault, record_of, in_record, numbered, Sized, Checked, Blames}
+use Rattle.swimlog.specs.Logs.{record_fault, earliest_fault, has_sizes, log_fault, record_of, record_in, in_record, numbered, Sized, Checked, Blames}
 use Rattle.swimlog.specs.Records.{Said, Reads}
 use Rattle.swimlog.specs.declared.fault.LogFault.{LogFault}
 use Rattle.swimlog.specs.declared.fault.LogFault.TheVariants.{BadSizes, BadLength}
@@ -13,6 +13,7 @@ use Rattle.swimlog.specs.declared.log.Log.{Log}
 use Rattle.swimlog.specs.declared.sizes.Sizes.{Sizes}
 use Rattle.swimlog.proofs.Blames.{blames}
 use Rattle.swimlog.proofs.Earliest.{earliest_found, none_earlier}
+use Rattle.swimlog.proofs.Readings.{whole_record}
 
 pub bad_sizes : (bytes : List ℕ) → has_sizes bytes ≡ false → log_fault bytes ≡ Some BadSizes
 unfolding log_fault
@@ -54,13 +55,26 @@ module _ (log : Log) where
   pub all_good : earliest_fault log.bytes.now log.sizes.gates log.sizes.records log.sizes.records ≡ None → log_fault log.bytes.now ≡ None
   all_good none = by_records ∙ none
 
-  pub bad_record : (i : ℕ) (e : LogFault) → i < log.sizes.records → earliest_fault log.bytes.now log.sizes.gates log.sizes.records i ≡ None → Some e ≡ record_fault log.bytes.now log.sizes.gates log.sizes.records i → log_fault log.bytes.now ≡ Some e
-  bad_record i e below none here = by_records ∙ earliest_found log.bytes.now log.sizes.gates log.sizes.records i log.sizes.records e below none (sym here)
+  module _ (i : ℕ) (below : i < log.sizes.records) where
+    stands_whole : record_in log.bytes.now log.sizes.gates log.sizes.records i ≡ record_of log.bytes.now log.sizes.gates log.sizes.records i
+    stands_whole = let whole = log.whole in whole_record log.bytes.now log.sizes.gates log.sizes.records i (omega arith)
 
-  pub always_read : log_fault log.bytes.now ≡ None → (i : ℕ) → i < log.sizes.records → (r : Result Constraint RecordFault) → Reads (record_of log.bytes.now log.sizes.gates log.sizes.records i) r → IsOk r
-  always_read sound i below r read =
-      read_if_good i (record_of log.bytes.now log.sizes.gates log.sizes.records i) r
-      (none_earlier log.bytes.now log.sizes.gates log.sizes.records log.sizes.records i (sym by_records ∙ sound) below) read
+    as_record_fault : (o : Option LogFault) → o ≡ in_record i (record_in log.bytes.now log.sizes.gates log.sizes.records i) → record_fault log.bytes.now log.sizes.gates log.sizes.records i ≡ o
+    as_record_fault o e = sym (e ∙ ap (in_record i) stands_whole)
+
+    pub none_more : earliest_fault log.bytes.now log.sizes.gates log.sizes.records i ≡ None → None ≡ in_record i (record_in log.bytes.now log.sizes.gates log.sizes.records i) → earliest_fault log.bytes.now log.sizes.gates log.sizes.records (i + 1) ≡ None
+    none_more none good = let here = as_record_fault None good in rw (add-one, none, here)
+
+    pub bad_record : (e : LogFault) → earliest_fault log.bytes.now log.sizes.gates log.sizes.records i ≡ None → Some e ≡ in_record i (record_in log.bytes.now log.sizes.gates log.sizes.records i) → log_fault log.bytes.now ≡ Some e
+    bad_record e none here = by_records ∙ earliest_found log.bytes.now log.sizes.gates log.sizes.records i log.sizes.records e below none (as_record_fault (Some e) here)
+
+    pub reads_whole : (r : Result Constraint RecordFault) → Reads (record_in log.bytes.now log.sizes.gates log.sizes.records i) r → Reads (record_of log.bytes.now log.sizes.gates log.sizes.records i) r
+    reads_whole r read = subst (λ said. Reads said r) stands_whole read
+
+    pub always_read : log_fault log.bytes.now ≡ None → (r : Result Constraint RecordFault) → Reads (record_in log.bytes.now log.sizes.gates log.sizes.records i) r → IsOk r
+    always_read sound r read =
+        read_if_good i (record_of log.bytes.now log.sizes.gates log.sizes.records i) r
+        (none_earlier log.bytes.now log.sizes.gates log.sizes.records log.sizes.records i (sym by_records ∙ sound) below) (reads_whole r read)
 
 pub refused_by : {X : Type 0} (P : X → Type 0) (bytes : List ℕ) (r : Result X LogFault) (e f : LogFault) → r ≡ Err f → f ≡ e → log_fault bytes ≡ Some e → MatchResult r P (λ g. log_fault bytes ≡ Some g)
 refused_by P bytes r e f refused same fault = subst (λ s. MatchResult s P (λ g. log_fault bytes ≡ Some g)) (sym refused) (fault ∙ ap Some (sym same))

@@ -75,6 +75,7 @@ impl From<BadRecord> for LogFault {
     }
 }
 
+// Here and below the answers are numbers, with 0 for none, and no Options: numbers are what the report prints, and it prints 0 where there is none.
 impl RecordFault {
     // The number by which the fault is reported. Not a discriminant: a bad value has the constraint's own fault inside.
     pub fn number(self) -> u8

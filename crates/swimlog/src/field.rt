@@ -42,9 +42,11 @@ fn bytes_at<const N: usize>(bytes: &[u8], at: usize) -> Result<[u8; N], FieldFau
 fn byte(bytes: &[u8], at: usize) -> Result<u8, FieldFault>
     ensures { result ≡ field bytes.now (at + 1) (byte_at bytes.now at) }
 {
-    bytes.get(at).copied().ok_or(FieldFault::CutOff)
+    let [byte] = bytes_at::<1>(bytes, at)?;
+    Ok(byte)
 }
 
+// Not one generic function with number(): std has no trait with from_le_bytes. That of num_traits answers T.of_le_bytes, and each call would have to show what that is.
 pub(crate) fn two_bytes(bytes: &[u8], at: usize) -> Result<u16, FieldFault>
     ensures { result ≡ field bytes.now (at + 2) (two_bytes_at bytes.now at) }
 {

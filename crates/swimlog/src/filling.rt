@@ -30,7 +30,7 @@ fn add_steps(net: &mut Net, sizes: Sizes, axis: Axis)
     }
 }
 
-// A record's constraint, to the net that it belongs to.
+// A record's constraint, to the net that it belongs to. The nets stay two parameters: a struct of both would be made for these calls alone, and each has its own facts.
 fn add_record(constraint: Constraint, one: &mut Net, two: &mut Net)
     requires one { length (records one.old) < most_records }
     requires two { length (records two.old) < most_records }

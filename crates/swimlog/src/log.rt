@@ -2,7 +2,7 @@
 ghost use Rattle.std.specs.Prelude.{◌≡◌, ◌<◌, length, IfErr, None, Some, Ok, MatchResult};
 ghost use Rattle.std.specs.Result.{result_err};
 ghost use Rattle.swimlog.specs.Format.{log_length};
-ghost use Rattle.swimlog.specs.Logs.{record_of, record_fault, log_fault, numbered, Sized, ReadSizes, Checked, Blames};
+ghost use Rattle.swimlog.specs.Logs.{record_of, record_in, in_record, log_fault, numbered, Sized, ReadSizes, Checked, Blames};
 ghost use Rattle.swimlog.specs.Records.{Reads};
 
 use crate::fault::{BadRecord, LogFault, RecordFault};
@@ -56,24 +56,22 @@ impl<'a> Log<'a> {
         Ok(log)
     }
 
+    pub(crate) fn bytes(&self) -> &'a [u8]
+        ensures { result.now ≡ self.now.bytes.now }
+    {
+        self.bytes
+    }
+
     pub(crate) fn sizes(&self) -> Sizes
         ensures { result ≡ self.now.sizes }
     {
         self.sizes
     }
 
-    fn record(&self, index: u16) -> Result<Constraint, RecordFault>
-        requires { index < self.now.sizes.records }
-        ensures { Reads (record_of self.now.bytes.now self.now.sizes.gates self.now.sizes.records index) result }
-    {
-        read_record(self.bytes, self.sizes, index)
-    }
-
     fn check_record(&self, index: u16) -> Result<(), LogFault>
-        requires { index < self.now.sizes.records }
-        ensures { result_err result ≡ record_fault self.now.bytes.now self.now.sizes.gates self.now.sizes.records index }
+        ensures { result_err result ≡ in_record index (record_in self.now.bytes.now self.now.sizes.gates self.now.sizes.records index) }
     {
-        numbered(index, self.record(index))?;
+        numbered(index, read_record(self, index))?;
         Ok(())
     }
 
@@ -92,7 +90,7 @@ impl<'a> Log<'a> {
         requires within { index < self.now.sizes.records }
         ensures { Reads (record_of self.now.bytes.now self.now.sizes.gates self.now.sizes.records index) (Ok result) }
     {
-        self.record(index).unwrap()
+        read_record(self, index).unwrap()
     }
 }
 

@@ -1,5 +1,4 @@
 // The records of a swim log, each read to the constraint that it says.
-ghost use Rattle.std.specs.Prelude.{◌<◌};
 ghost use Rattle.swimlog.specs.Logs.{record_in};
 ghost use Rattle.swimlog.specs.Records.{bounds, ranges, says, made, record_says, Reads};
 
@@ -7,6 +6,7 @@ use crate::fault::{FieldFault, RecordFault};
 use crate::field::{Body, Record, read_body, read_head};
 use crate::kind::{Axis, Kind};
 use crate::layout::head_start;
+use crate::log::Log;
 use crate::sizes::Sizes;
 use constraint::{Beacon, Bound, Constraint, Range};
 
@@ -55,10 +55,12 @@ impl Record {
     }
 }
 
-pub(crate) fn read_record(bytes: &[u8], sizes: Sizes, index: u16) -> Result<Constraint, RecordFault>
-    requires { index < sizes.records }
-    ensures { Reads (record_in bytes.now sizes.gates sizes.records index) result }
+// The record at a place. A place behind the last one is cut off, since a log is as long as its sizes ask for.
+pub(crate) fn read_record(log: &Log, index: u16) -> Result<Constraint, RecordFault>
+    ensures { Reads (record_in log.now.bytes.now log.now.sizes.gates log.now.sizes.records index) result }
 {
+    let bytes = log.bytes();
+    let sizes = log.sizes();
     let head = read_head(bytes, head_start(index))?;
     let body = read_body(bytes, sizes.body_start(index))?;
     let number = 2 * (sizes.gates() - 1) + index;

@@ -16,6 +16,7 @@ pub enum Report {
         mark: Mark,
         sizes: Sizes,
         // No heap, since the survey is linked into programs that have none: as many rows as the longest tube, and the first few count.
+        // Not an ArrayVec of just those: the report could not be Copy, and the sizes alone would no longer show that a gate's cell is one of its rows.
         tube: [Row; MAX_CELLS],
     },
     // No trajectory obeys it.

@@ -37,6 +37,7 @@ impl Sizes {
     {
         self.records
     }
+
     // How many cells the tube of such a swim has.
     pub fn cells(self) -> usize
         ensures { result ≡ cells_of self.gates }

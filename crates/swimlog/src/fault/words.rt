@@ -1,5 +1,5 @@
 // The faults of a swim log in words.
-ghost use Rattle.std.specs.Prelude.{◌≡◌, Some};
+ghost use Rattle.std.specs.Prelude.{Some};
 ghost use Rattle.swimlog.specs.Words.{field_words, record_words, bad_record_words, log_words};
 
 use super::{BadRecord, FieldFault, LogFault, RecordFault};

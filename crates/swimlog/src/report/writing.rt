@@ -1,6 +1,5 @@
-// The report's bytes, put on a page. A function that puts a part asks for the room that it fills, and one that puts a whole report on a new page shows that there is enough.
+// The report's bytes, put on a page. A function that puts a part asks for the room that it fills, and one that makes the page of a whole report shows that there is enough.
 ghost use Rattle.std.specs.Prelude.{◌≡◌, ◌+◌, ◌*◌, ◌<◌, ◌≤◌, [], ◌∷◌, ◌++◌, map, length, codes, decimal};
-ghost use Rattle.std.specs.Fmt.{signed_decimal};
 ghost use Rattle.swimlog.specs.Limits.{most_gates};
 ghost use Rattle.swimlog.specs.Pages.{page_bytes, Spare, Room};
 ghost use Rattle.swimlog.specs.Report.{Written, space, line_end, spaced, line, mark_word, place_fields, gate_line, gate_lines, kept_bytes, empty_bytes, refused_bytes, report_bytes};
@@ -97,20 +96,21 @@ fn put_kept_line(page: &mut Page, calls: u64, mark: Mark)
     page.put(mark_end(mark));
 }
 
-fn put_kept(page: &mut Page, calls: u64, mark: Mark, sizes: Sizes, tube: &[Row; MAX_CELLS])
-    requires { page_bytes page.old ≡ [] }
-    ensures { page_bytes page.new ≡ kept_bytes calls mark sizes.gates tube.now }
+fn kept_page(calls: u64, mark: Mark, sizes: Sizes, tube: &[Row; MAX_CELLS]) -> Page
+    ensures { page_bytes result ≡ kept_bytes calls mark sizes.gates tube.now }
 {
-    put_kept_line(page, calls, mark);
-    put_gates(page, sizes, tube);
+    let mut page = Page::new();
+    put_kept_line(&mut page, calls, mark);
+    put_gates(&mut page, sizes, tube);
+    page
 }
 
-fn put_empty(page: &mut Page, fault: Fault, calls: u64)
-    requires { page_bytes page.old ≡ [] }
-    ensures { page_bytes page.new ≡ empty_bytes fault calls }
+fn empty_page(fault: Fault, calls: u64) -> Page
+    ensures { page_bytes result ≡ empty_bytes fault calls }
 {
+    let mut page = Page::new();
     put_line(
-        page,
+        &mut page,
         b"empty",
         &[
             fault.number as u64,
@@ -120,14 +120,15 @@ fn put_empty(page: &mut Page, fault: Fault, calls: u64)
             calls,
         ],
     );
+    page
 }
 
-fn put_refused(page: &mut Page, fault: LogFault)
-    requires { page_bytes page.old ≡ [] }
-    ensures { page_bytes page.new ≡ refused_bytes fault }
+fn refused_page(fault: LogFault) -> Page
+    ensures { page_bytes result ≡ refused_bytes fault }
 {
+    let mut page = Page::new();
     put_line(
-        page,
+        &mut page,
         b"refused",
         &[
             fault.number() as u64,
@@ -135,24 +136,23 @@ fn put_refused(page: &mut Page, fault: LogFault)
             fault.inner() as u64,
         ],
     );
+    page
 }
 
 // The report as it is printed.
 pub fn report_page(report: &Report) -> Page
     ensures { page_bytes result ≡ report_bytes report.now }
 {
-    let mut page = Page::new();
     match report {
         Report::Kept {
             calls,
             mark,
             sizes,
             tube,
-        } => put_kept(&mut page, *calls, *mark, *sizes, tube),
-        Report::Empty { fault, calls } => put_empty(&mut page, *fault, *calls),
-        Report::Refused(fault) => put_refused(&mut page, *fault),
+        } => kept_page(*calls, *mark, *sizes, tube),
+        Report::Empty { fault, calls } => empty_page(*fault, *calls),
+        Report::Refused(fault) => refused_page(*fault),
     }
-    page
 }
 
 // Adds the report to a buffer. Where there is no memory for all of it, the buffer stays as it was.
