@@ -1,8 +1,10 @@
 // What a use of a contractor answers.
-ghost use Rattle.std.specs.Prelude.{◌≡◌, ◌+◌, ◌*◌, ◌-◌, ◌^◌, ◌<◌, ◌≤◌};
-ghost use Rattle.contractor.specs.Answers.{kept, emptied};
+ghost use Rattle.std.specs.Prelude.{◌≡◌, ◌+◌, ◌*◌, ◌-◌, ◌^◌, ◌<◌, ◌≤◌, Some};
+ghost use Rattle.contractor.specs.Answers.{kept, emptied, word};
 ghost use Rattle.contractor.specs.declared.answer.Mark.TheVariants.{Settled};
 ghost use Rattle.contractor.specs.Layers.{passed_up};
+
+use std::fmt;
 
 // Why a tube holds no trajectory of a relation: the kind of the constraint that said so, its number, the cell where nothing is left,
 // and the way through the layers down to it, a digit in base 8 for each layer, the outermost last.
@@ -33,6 +35,17 @@ impl Fault {
 pub enum Mark {
     Settled,
     Stopped,
+}
+
+impl fmt::Display for Mark {
+    ghost output = { λ m. Some (word m) };
+
+    fn fmt<W: fmt::Write>(&self, f: &mut fmt::Formatter<W>) -> fmt::Result {
+        f.write_str(match *self {
+            Mark::Settled => "settled",
+            Mark::Stopped => "stopped",
+        })
+    }
 }
 
 // Not a Result: that nothing is left is an answer as good as the other, the calls stand beside either, and no `?` may pass it by.
