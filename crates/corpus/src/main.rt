@@ -13,14 +13,8 @@ use survey::write_survey;
 fn first_log(bytes: &[u8]) -> Option<(&[u8], &[u8])>
     ensures { elim result [ Some x ↦ (has_first bytes.now ≡ true) × (x.0.now ≡ take (first_length bytes.now) (drop length_bytes bytes.now)) × (x.1.now ≡ drop (length_bytes + first_length bytes.now) bytes.now) | None ↦ has_first bytes.now ≡ false ] }
 {
-    let [b0, b1, b2, b3, rest @ ..] = bytes else {
-        return None;
-    };
-    let length = u32::from_le_bytes([*b0, *b1, *b2, *b3]) as usize;
-    if length > rest.len() {
-        return None;
-    }
-    Some(rest.split_at(length))
+    let (length, rest) = bytes.split_first_chunk()?;
+    rest.split_at_checked(u32::from_le_bytes(*length) as usize)
 }
 
 fn main(rt: HostRuntime) -> anyhow::Result<()> {

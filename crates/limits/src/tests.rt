@@ -5,7 +5,7 @@ mod ranges;
 mod tubes;
 
 use constraint::{Beacon, Bound, Constraint, Range, Step};
-use contractor::{Answer, Contractor, Fault, Mark, UseRefusal};
+use contractor::{Answer, Contractor, UseRefusal};
 use std::process::Abort;
 use std::test::Fail;
 use tube::{Interval, MakingFault, Row};
@@ -42,28 +42,12 @@ fn range(
     Ok(Constraint::Range(Range::new(number, cells.0, cells.1, at, distances.0, distances.1)?))
 }
 
-type Outcome = Result<Answer, UseRefusal>;
-
-fn kept() -> Outcome {
-    Ok(Answer::kept(Mark::Settled, 1))
-}
-
-fn empty(cause: u8, number: u16, cell: usize) -> Outcome {
-    let fault = Fault {
-        cause,
-        number,
-        cell,
-        path: 0,
-    };
-    Ok(Answer::empty(fault, 1))
-}
-
 // One use: what it answers, and what the table then holds.
 fn check_use<const N: usize>(
     rt: &impl Abort,
     made: Result<Constraint, MakingFault>,
     before: [Row; N],
-    answer: Outcome,
+    answer: Result<Answer, UseRefusal>,
     after: [Row; N],
 ) -> Result<(), Fail> {
     let mut table = before;
@@ -71,4 +55,24 @@ fn check_use<const N: usize>(
     assert_eq!(rt; constraint.contract(&mut table), answer);
     assert_eq!(rt; table, after);
     Ok(())
+}
+
+// A use that settles in its one call, and what the table then holds.
+fn check_kept<const N: usize>(
+    rt: &impl Abort,
+    made: Result<Constraint, MakingFault>,
+    before: [Row; N],
+    after: [Row; N],
+) -> Result<(), Fail> {
+    check_use(rt, made, before, Ok(Answer::settled()), after)
+}
+
+// A use that answers this and leaves the table as it was.
+fn check_untouched<const N: usize>(
+    rt: &impl Abort,
+    made: Result<Constraint, MakingFault>,
+    table: [Row; N],
+    answer: Result<Answer, UseRefusal>,
+) -> Result<(), Fail> {
+    check_use(rt, made, table, answer, table)
 }

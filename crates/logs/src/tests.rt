@@ -48,12 +48,12 @@ fn distance(gate: u16, beacon: (i32, i32), nearest: i32, farthest: i32) -> Recor
     of_kind(b'R', 0, gate, [beacon.0, beacon.1, nearest, farthest, 0, 0])
 }
 
-// A record that is refused by a number, in a log of at most 999 gates; a good one for any other number.
-fn refused_by(number: u8) -> Record {
+// A record that is refused by a number, in a log of at most 999 gates; a good one for none, or for any other number.
+fn refused_by(number: Option<u8>) -> Record {
     match number {
-        15 => of_kind(b'b', 0, 0, [0; 6]),
-        16 => of_kind(b'B', 0, 999, [0; 6]),
-        17 => of_kind(b'B', 0, 0, [1, 0, 0, 0, 0, 0]),
+        Some(15) => of_kind(b'b', 0, 0, [0; 6]),
+        Some(16) => of_kind(b'B', 0, 999, [0; 6]),
+        Some(17) => of_kind(b'B', 0, 0, [1, 0, 0, 0, 0, 0]),
         _ => of_kind(b'B', 0, 0, [0; 6]),
     }
 }
@@ -76,34 +76,28 @@ fn log(heap: Global, gates: u16, records: &[Record]) -> Result<Vec<u8>, Fail> {
     Ok(bytes)
 }
 
-// The number, the record and the number inside, as a fault tells them; all 0 where there is none.
+// The number, the record and the number inside, as a fault tells them.
 type Told = (u8, u16, u8);
 
-const TAKEN: Told = (0, 0, 0);
-
-fn told<T: Drop>(read: Result<T, LogFault>) -> Told {
-    match read {
-        Ok(_) => TAKEN,
-        Err(fault) => (fault.number(), fault.record(), fault.inner()),
-    }
+fn told<T: Drop>(read: Result<T, LogFault>) -> Option<Told> {
+    let fault = read.err()?;
+    Some((fault.number(), fault.record(), fault.inner()))
 }
 
 // What is told of a number in a record: inside a 17 there is always a 3.
-fn telling(number: u8, record: u16) -> Told {
-    match number {
-        0 => TAKEN,
-        17 => (17, record, 3),
-        _ => (number, record, 0),
-    }
+fn telling(number: Option<u8>, record: u16) -> Option<Told> {
+    let number = number?;
+    let inner = if number == 17 { 3 } else { 0 };
+    Some((number, record, inner))
 }
 
-// A log of one record: the number by which it is refused, or 0.
+// A log of one record, and the number by which it is refused, if it is.
 fn check_record(
     rt: &impl Abort,
     heap: Global,
     gates: u16,
     record: Record,
-    number: u8,
+    number: Option<u8>,
 ) -> Result<(), Fail> {
     let bytes = log(heap, gates, &[record])?;
     assert_eq!(rt; told(check_log(bytes.as_slice())), telling(number, 0));

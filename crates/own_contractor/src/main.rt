@@ -2,7 +2,7 @@
 #![tactic(auto)]
 
 use constraint::{Bound, Constraint, Step};
-use contractor::{Both, Contractor, Either, Mark, Repeat, Rounds, Verdict};
+use contractor::{Both, Contractor, Either, Repeat, Rounds, Verdict};
 use net::Net;
 use tube::Row;
 
@@ -81,8 +81,7 @@ fn use_it<C: Contractor>(
         Ok(answer) => {
             let calls = answer.calls;
             match answer.verdict {
-                Verdict::Kept(Mark::Settled) => println!(rt; "  kept, settled, {calls} calls")?,
-                Verdict::Kept(Mark::Stopped) => println!(rt; "  kept, stopped, {calls} calls")?,
+                Verdict::Kept(mark) => println!(rt; "  kept, {mark}, {calls} calls")?,
                 Verdict::Empty(fault) => {
                     let number = fault.number;
                     let cause = fault.cause;

@@ -9,10 +9,6 @@ fn bound(number: u16, low: i32, high: i32) -> Result<Bound, MakingFault> {
     Bound::new(number, 0, low, high)
 }
 
-fn kept(mark: Mark, calls: u64) -> Answer {
-    Answer::kept(mark, calls)
-}
-
 fn empty(number: u16, path: u64, calls: u64) -> Answer {
     Answer::empty(
         Fault {
@@ -47,7 +43,7 @@ fn unions(rt: HostRuntime) -> Result<(), Fail> {
         &rt,
         bound(1, 0, 2)?,
         bound(2, 5, 6)?,
-        kept(Mark::Settled, 2),
+        Answer::kept(Mark::Settled, 2),
         0,
         6,
     )?;
@@ -55,7 +51,7 @@ fn unions(rt: HostRuntime) -> Result<(), Fail> {
         &rt,
         bound(1, 20, 30)?,
         bound(2, 5, 6)?,
-        kept(Mark::Settled, 2),
+        Answer::kept(Mark::Settled, 2),
         5,
         6,
     )?;
@@ -63,7 +59,7 @@ fn unions(rt: HostRuntime) -> Result<(), Fail> {
         &rt,
         bound(1, 0, 2)?,
         bound(2, 20, 30)?,
-        kept(Mark::Settled, 2),
+        Answer::kept(Mark::Settled, 2),
         0,
         2,
     )?;
@@ -96,9 +92,9 @@ fn rounds(rt: &impl Abort, count: u32, answer: Answer) -> Result<(), Fail> {
 #[test]
 fn repetitions(rt: HostRuntime) -> Result<(), Fail> {
     // The only round changes a cell; the last of two, and the second of three, change none.
-    rounds(&rt, 1, kept(Mark::Stopped, 2))?;
-    rounds(&rt, 2, kept(Mark::Settled, 4))?;
-    rounds(&rt, 3, kept(Mark::Settled, 4))
+    rounds(&rt, 1, Answer::kept(Mark::Stopped, 2))?;
+    rounds(&rt, 2, Answer::kept(Mark::Settled, 4))?;
+    rounds(&rt, 3, Answer::kept(Mark::Settled, 4))
 }
 
 #[test]
@@ -126,7 +122,7 @@ fn ceilings(rt: HostRuntime) -> Result<(), Fail> {
     assert_eq!(rt; most.ceiling(), 1_000_000_000);
     assert_eq!(rt;
         most.contract(&mut [Row { low: 0, high: 9 }])?,
-        kept(Mark::Settled, 1)
+        Answer::kept(Mark::Settled, 1)
     );
     let mut past = Both {
         first: most,

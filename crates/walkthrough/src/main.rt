@@ -1,15 +1,15 @@
 // A tour of the library for a reader who has never seen it: a short swim along a quay wall, narrowed by hand.
 #![tactic(auto)]
 
-use constraint::{Bound, Constraint};
-use contractor::{Answer, Contractor, Mark, Verdict};
+use constraint::Bound;
+use contractor::{Answer, Contractor, Verdict};
 use tube::Row;
 
 mod pile;
 mod proposals;
 mod swim;
 
-use swim::{ANYWHERE, CELLS, cell_name, says};
+use swim::{ANYWHERE, CELLS, Record, cell_name};
 
 fn main(rt: HostRuntime) -> anyhow::Result<()> {
     tour(&rt)
@@ -43,11 +43,7 @@ fn show_tube(rt: &HostRuntime, tube: &[Row]) -> anyhow::Result<()> {
 }
 
 // Uses each record in turn until a whole turn changes no cell, and answers the calls made.
-fn narrow_in_turns(
-    rt: &HostRuntime,
-    records: &[Constraint],
-    tube: &mut [Row],
-) -> anyhow::Result<u64> {
+fn narrow_in_turns(rt: &HostRuntime, records: &[Record], tube: &mut [Row]) -> anyhow::Result<u64> {
     let mut calls = 0u64;
     for turn in 1..100u32 {
         println!(rt; "\nTurn {turn}.")?;
@@ -64,17 +60,16 @@ fn narrow_in_turns(
 // Uses each record once: the calls made, and whether any cell changed.
 fn narrow_once(
     rt: &HostRuntime,
-    records: &[Constraint],
+    records: &[Record],
     tube: &mut [Row],
 ) -> anyhow::Result<(u64, bool)> {
     let mut calls = 0u64;
     let mut changed = false;
-    for (number, record) in records.iter().enumerate() {
-        let text = says(number);
-        println!(rt; "  {text}:")?;
+    for record in records {
+        println!(rt; "  {}:", record.says)?;
         let before = tube.to_vec(rt.alloc())?;
-        let mut record = *record;
-        match record.contract(tube) {
+        let mut constraint = record.constraint;
+        match constraint.contract(tube) {
             Ok(answer) => {
                 changed = show_changes(rt, &before, tube)? || changed;
                 show_answer(rt, answer)?;
@@ -107,8 +102,7 @@ fn show_changes(rt: &HostRuntime, before: &[Row], after: &[Row]) -> anyhow::Resu
 fn show_answer(rt: &HostRuntime, answer: Answer) -> anyhow::Result<()> {
     let calls = answer.calls;
     match answer.verdict {
-        Verdict::Kept(Mark::Settled) => println!(rt; "    kept, settled, calls {calls}")?,
-        Verdict::Kept(Mark::Stopped) => println!(rt; "    kept, stopped, calls {calls}")?,
+        Verdict::Kept(mark) => println!(rt; "    kept, {mark}, calls {calls}")?,
         Verdict::Empty(fault) => {
             let number = fault.number;
             let cause = fault.cause;

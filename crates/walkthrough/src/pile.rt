@@ -1,5 +1,5 @@
 // The same swim by one pile: rounds over a composition of two nets, which does by itself what the tour did by hand.
-use constraint::Constraint;
+use crate::swim::Record;
 use contractor::{Both, Contractor, Repeat, Rounds};
 use net::Net;
 use tube::Row;
@@ -7,19 +7,15 @@ use tube::Row;
 // How many of the records stand in the first net: the steps and the bounds. The range stands in the second.
 const FIRST: usize = 10;
 
-pub(crate) fn show(
-    rt: &HostRuntime,
-    records: &[Constraint],
-    tube: &mut [Row],
-) -> anyhow::Result<()> {
+pub(crate) fn show(rt: &HostRuntime, records: &[Record], tube: &mut [Row]) -> anyhow::Result<()> {
     let rounds = Rounds::new(32)?;
     let mut first = Net::new(rounds);
     let mut second = Net::new(rounds);
     for record in records.iter().take(FIRST) {
-        first.push(*record)?;
+        first.push(record.constraint)?;
     }
     for record in records.iter().skip(FIRST) {
-        second.push(*record)?;
+        second.push(record.constraint)?;
     }
     let mut pile = Repeat {
         rounds: Rounds::new(8)?,

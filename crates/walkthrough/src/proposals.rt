@@ -1,6 +1,6 @@
 // The tour of a track: proposals that are committed, withdrawn, and emptied and closed.
 use constraint::Bound;
-use track::{Proposal, Refused, Rest, Used, make};
+use track::{Proposal, Refused, Rest, TrackRefusal, Used, make};
 use tube::Row;
 
 // The calls that the tour allows itself.
@@ -12,7 +12,7 @@ enum Ending {
     Committed,
     Withdrawn,
     Closed { number: u16, cell: usize },
-    Refused(u8),
+    Refused(TrackRefusal),
 }
 
 pub(crate) fn show(
@@ -114,7 +114,8 @@ fn go<E: FnOnce(Proposal, &mut [Row], &[Row]) -> (Rest, Ending)>(
                 "  close: at rest, {after} calls charged; the committed table is as it was"
             )?;
         }
-        Ending::Refused(number) => {
+        Ending::Refused(refusal) => {
+            let number = refusal.number();
             println!(rt;
                 "  use a bound: refused {number}, still proposing, {after} calls charged"
             )?;
@@ -135,7 +136,7 @@ fn propose<E: FnOnce(Proposal, &mut [Row], &[Row]) -> (Rest, Ending)>(
     requires { E.IsAlwaysCallable end }
 {
     match rest.propose(committed, work) {
-        Err(Refused { standing, refusal }) => (standing, Ending::Refused(refusal.number())),
+        Err(Refused { standing, refusal }) => (standing, Ending::Refused(refusal)),
         Ok(proposal) => match proposal.apply(&mut bound, work) {
             Err(refused) => give_up(refused),
             Ok(Used::Emptied(emptied)) => {
@@ -167,5 +168,5 @@ fn withdraw(proposal: Proposal, _committed: &mut [Row], _work: &[Row]) -> (Rest,
 // What was refused on a proposal is told, and the proposal withdrawn.
 fn give_up(refused: Refused<Proposal>) -> (Rest, Ending) {
     let Refused { standing, refusal } = refused;
-    (standing.withdraw(), Ending::Refused(refusal.number()))
+    (standing.withdraw(), Ending::Refused(refusal))
 }

@@ -25,47 +25,61 @@ pub(crate) fn cell_name(cell: usize) -> &'static str {
     }
 }
 
-// What each record says, by its number.
-pub(crate) fn says(number: usize) -> &'static str {
-    match number {
-        0 => "gate 1 is gate 0 plus slice 0, x",
-        1 => "gate 2 is gate 1 plus slice 1, x",
-        2 => "gate 1 is gate 0 plus slice 0, y",
-        3 => "gate 2 is gate 1 plus slice 1, y",
-        4 => "the fix at the start, x",
-        5 => "the fix at the start, y",
-        6 => "the first step, along the wall",
-        7 => "the second step, along the wall",
-        8 => "the first step, off the wall",
-        9 => "the second step, off the wall",
-        10 => "the distance to the beacon at gate 2",
-        _ => "no record of this swim",
-    }
+// A record of the swim, and what it says in words.
+#[derive(Clone, Copy)]
+pub(crate) struct Record {
+    pub(crate) says: &'static str,
+    pub(crate) constraint: Constraint,
+}
+
+fn step(
+    says: &'static str,
+    number: u16,
+    from: usize,
+    by: usize,
+    to: usize,
+) -> anyhow::Result<Record> {
+    let constraint = Constraint::Step(Step::new(number, from, by, to)?);
+    Ok(Record { says, constraint })
+}
+
+fn bound(
+    says: &'static str,
+    number: u16,
+    cell: usize,
+    low: i32,
+    high: i32,
+) -> anyhow::Result<Record> {
+    let constraint = Constraint::Bound(Bound::new(number, cell, low, high)?);
+    Ok(Record { says, constraint })
 }
 
 // What every swim has: each position is the one before it plus the step of the slice between them.
-fn push_motion(records: &mut Vec<Constraint>) -> anyhow::Result<()> {
-    records.push(Constraint::Step(Step::new(0, 0, 6, 1)?))?;
-    records.push(Constraint::Step(Step::new(1, 1, 7, 2)?))?;
-    records.push(Constraint::Step(Step::new(2, 3, 8, 4)?))?;
-    records.push(Constraint::Step(Step::new(3, 4, 9, 5)?))?;
+fn push_motion(records: &mut Vec<Record>) -> anyhow::Result<()> {
+    records.push(step("gate 1 is gate 0 plus slice 0, x", 0, 0, 6, 1)?)?;
+    records.push(step("gate 2 is gate 1 plus slice 1, x", 1, 1, 7, 2)?)?;
+    records.push(step("gate 1 is gate 0 plus slice 0, y", 2, 3, 8, 4)?)?;
+    records.push(step("gate 2 is gate 1 plus slice 1, y", 3, 4, 9, 5)?)?;
     Ok(())
 }
 
 // What this robot measured, in millimetres.
-fn push_measured(records: &mut Vec<Constraint>) -> anyhow::Result<()> {
-    records.push(Constraint::Bound(Bound::new(4, 0, 0, 0)?))?;
-    records.push(Constraint::Bound(Bound::new(5, 3, 0, 0)?))?;
-    records.push(Constraint::Bound(Bound::new(6, 6, 2950, 3050)?))?;
-    records.push(Constraint::Bound(Bound::new(7, 7, 2950, 3050)?))?;
-    records.push(Constraint::Bound(Bound::new(8, 8, -30, 30)?))?;
-    records.push(Constraint::Bound(Bound::new(9, 9, -30, 30)?))?;
+fn push_measured(records: &mut Vec<Record>) -> anyhow::Result<()> {
+    records.push(bound("the fix at the start, x", 4, 0, 0, 0)?)?;
+    records.push(bound("the fix at the start, y", 5, 3, 0, 0)?)?;
+    records.push(bound("the first step, along the wall", 6, 6, 2950, 3050)?)?;
+    records.push(bound("the second step, along the wall", 7, 7, 2950, 3050)?)?;
+    records.push(bound("the first step, off the wall", 8, 8, -30, 30)?)?;
+    records.push(bound("the second step, off the wall", 9, 9, -30, 30)?)?;
     let beacon = Beacon { x: 6000, y: 4000 };
-    records.push(Constraint::Range(Range::new(10, 2, 5, beacon, 3990, 4005)?))?;
+    records.push(Record {
+        says: "the distance to the beacon at gate 2",
+        constraint: Constraint::Range(Range::new(10, 2, 5, beacon, 3990, 4005)?),
+    })?;
     Ok(())
 }
 
-pub(crate) fn records(heap: Global) -> anyhow::Result<Vec<Constraint>> {
+pub(crate) fn records(heap: Global) -> anyhow::Result<Vec<Record>> {
     let mut records = Vec::new(heap);
     push_motion(&mut records)?;
     push_measured(&mut records)?;

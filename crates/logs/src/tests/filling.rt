@@ -44,7 +44,7 @@ fn check_refused(rt: &impl Abort, bytes: &[u8], number: u8, record: u16) -> Resu
     let mut one = filled(5)?;
     let mut two = filled(6)?;
     let read = read_log(bytes, &mut one, &mut two);
-    assert_eq!(rt; told(read), telling(number, record));
+    assert_eq!(rt; told(read), telling(Some(number), record));
     check_net(rt, &one, 5, filled(1)?.records());
     check_net(rt, &two, 6, filled(1)?.records());
     Ok(())
@@ -59,7 +59,11 @@ fn refused_logs(rt: HostRuntime) -> Result<(), Fail> {
         let bytes = log(
             rt.alloc(),
             2,
-            &[refused_by(0), distance(1, (0, 0), 3, 4), refused_by(number)],
+            &[
+                refused_by(None),
+                distance(1, (0, 0), 3, 4),
+                refused_by(Some(number)),
+            ],
         )?;
         check_refused(&rt, bytes.as_slice(), number, 2)?;
     }
