@@ -14,7 +14,7 @@ use survey::write_survey;
 use swimlog::{LogFault, check_log, read_log};
 use tube::Interval;
 
-// The farthest coordinate.
+// The farthest coordinate, as in the tests of limits: one line needs no crate.
 const W: i32 = Interval::REACH;
 
 #[derive(Clone, Copy)]

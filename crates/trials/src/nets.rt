@@ -6,6 +6,7 @@ use std::process::Abort;
 use std::test::Fail;
 use tube::Row;
 
+// As in the tests of limits: one line needs no crate.
 fn row(low: i32, high: i32) -> Row {
     Row { low, high }
 }
