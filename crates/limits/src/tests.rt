@@ -42,12 +42,22 @@ fn range(
     Ok(Constraint::Range(Range::new(number, cells.0, cells.1, at, distances.0, distances.1)?))
 }
 
+type Outcome = Result<Answer, UseRefusal>;
+
+fn kept() -> Outcome {
+    Ok(Answer::settled())
+}
+
+fn empty(cause: u8, number: u16, cell: usize) -> Outcome {
+    Ok(Answer::empty_at(cause, number, cell))
+}
+
 // One use: what it answers, and what the table then holds.
 fn check_use<const N: usize>(
     rt: &impl Abort,
     made: Result<Constraint, MakingFault>,
     before: [Row; N],
-    answer: Result<Answer, UseRefusal>,
+    answer: Outcome,
     after: [Row; N],
 ) -> Result<(), Fail> {
     let mut table = before;
@@ -55,24 +65,4 @@ fn check_use<const N: usize>(
     assert_eq!(rt; constraint.contract(&mut table), answer);
     assert_eq!(rt; table, after);
     Ok(())
-}
-
-// A use that settles in its one call, and what the table then holds.
-fn check_kept<const N: usize>(
-    rt: &impl Abort,
-    made: Result<Constraint, MakingFault>,
-    before: [Row; N],
-    after: [Row; N],
-) -> Result<(), Fail> {
-    check_use(rt, made, before, Ok(Answer::settled()), after)
-}
-
-// A use that answers this and leaves the table as it was.
-fn check_untouched<const N: usize>(
-    rt: &impl Abort,
-    made: Result<Constraint, MakingFault>,
-    table: [Row; N],
-    answer: Result<Answer, UseRefusal>,
-) -> Result<(), Fail> {
-    check_use(rt, made, table, answer, table)
 }

@@ -1,7 +1,6 @@
 // A track of three cells, called with tables of all lengths and allowances at their limits.
 use constraint::{Beacon, Bound, Range, Step};
 use contractor::{Both, Contractor, Either, Repeat, Rounds};
-use std::process::Abort;
 use std::test::Fail;
 use track::{MAX_ALLOWANCE, Proposal, Refused, Rest, TrackRefusal, Used, make};
 use tube::{MakingFault, Row};
@@ -18,13 +17,6 @@ enum Told {
 // The number by which a call is refused, if it is.
 fn refused<T: Drop>(called: Result<T, TrackRefusal>) -> Option<u8> {
     called.err().map(TrackRefusal::number)
-}
-
-// Why a call on a proposal is refused. The proposal that it hands back is as it was: nothing is charged to it.
-fn give_up(rt: &impl Abort, refused: Refused<Proposal>) -> TrackRefusal {
-    let Refused { standing, refusal } = refused;
-    assert_eq!(rt; standing.withdraw().charged(), 0);
-    refusal
 }
 
 // A track of three cells with an allowance, proposing with tables of any lengths.
@@ -70,45 +62,45 @@ fn proposes(rt: HostRuntime) {
 }
 
 // A track of three cells that commits with tables of other lengths.
-fn committing(rt: &impl Abort, committed: &mut [Row], work: &[Row]) -> Result<Rest, TrackRefusal> {
-    open(10)?
-        .commit(committed, work)
-        .map_err(|refused| give_up(rt, refused))
+fn committing(committed: &mut [Row], work: &[Row]) -> Result<Rest, TrackRefusal> {
+    open(10)?.commit(committed, work).map_err(|refused| {
+        let Refused { standing, refusal } = refused;
+        let _ = standing.withdraw();
+        refusal
+    })
 }
 
 #[test]
 fn commits(rt: HostRuntime) {
     let other = Row { low: 5, high: 6 };
-    assert_eq!(rt;
-        refused(committing(&rt, &mut [ROW; 2], &[other; 3])),
-        Some(10)
-    );
-    assert_eq!(rt;
-        refused(committing(&rt, &mut [ROW; 4], &[other; 3])),
-        Some(10)
-    );
+    assert_eq!(rt; refused(committing(&mut [ROW; 2], &[other; 3])), Some(10));
+    assert_eq!(rt; refused(committing(&mut [ROW; 4], &[other; 3])), Some(10));
     let mut rows = [ROW; 3];
-    assert_eq!(rt; refused(committing(&rt, &mut rows, &[other; 2])), Some(10));
+    assert_eq!(rt; refused(committing(&mut rows, &[other; 2])), Some(10));
     assert_eq!(rt; rows, [ROW; 3]);
-    assert_eq!(rt; refused(committing(&rt, &mut rows, &[other; 3])), None);
+    assert_eq!(rt; refused(committing(&mut rows, &[other; 3])), None);
     assert_eq!(rt; rows, [other; 3]);
 }
 
 // A track of three cells with an allowance, one use on the work table that is handed in, and its end.
 fn using<C: Contractor>(
-    rt: &impl Abort,
     allowance: u64,
     contractor: &mut C,
     work: &mut [Row],
 ) -> Result<Told, TrackRefusal> {
-    let used = open(allowance)?
-        .apply(contractor, work)
-        .map_err(|refused| give_up(rt, refused))?;
-    match used {
-        Used::Kept(proposal, _) => Ok(Told::Kept(proposal.withdraw().charged())),
-        Used::Emptied(emptied) => {
+    match open(allowance)?.apply(contractor, work) {
+        Ok(Used::Kept(proposal, _)) => Ok(Told::Kept(proposal.withdraw().charged())),
+        Ok(Used::Emptied(emptied)) => {
             let (_, rest) = emptied.close();
             Ok(Told::Emptied(rest.charged()))
+        }
+        Err(refused) => {
+            let Refused { standing, refusal } = refused;
+            match standing.withdraw().charged() {
+                0 => Err(refusal),
+                // A refused use that is charged is none.
+                charged => Ok(Told::Kept(charged)),
+            }
         }
     }
 }
@@ -119,13 +111,13 @@ fn uses(rt: HostRuntime) -> Result<(), Fail> {
     let mut none = Bound::new(2, 2, 30, 40)?;
     let mut far = Bound::new(3, 3, 5, 9)?;
     let mut rows = [ROW; 3];
-    assert_eq!(rt; using(&rt, 1, &mut none, &mut rows)?, Told::Emptied(1));
+    assert_eq!(rt; using(1, &mut none, &mut rows)?, Told::Emptied(1));
     assert_eq!(rt; rows, [ROW; 3]);
-    assert_eq!(rt; using(&rt, 1, &mut cut, &mut rows)?, Told::Kept(1));
+    assert_eq!(rt; using(1, &mut cut, &mut rows)?, Told::Kept(1));
     assert_eq!(rt; rows, [ROW, ROW, Row { low: 5, high: 9 }]);
-    assert_eq!(rt; refused(using(&rt, 1, &mut far, &mut [ROW; 3])), Some(7));
-    assert_eq!(rt; refused(using(&rt, 1, &mut far, &mut [ROW; 4])), Some(10));
-    assert_eq!(rt; refused(using(&rt, 1, &mut cut, &mut [ROW; 0])), Some(7));
+    assert_eq!(rt; refused(using(1, &mut far, &mut [ROW; 3])), Some(7));
+    assert_eq!(rt; refused(using(1, &mut far, &mut [ROW; 4])), Some(10));
+    assert_eq!(rt; refused(using(1, &mut cut, &mut [ROW; 0])), Some(7));
     Ok(())
 }
 
@@ -135,7 +127,7 @@ fn refuses_a_table_that_is_no_tube(rt: HostRuntime) -> Result<(), Fail> {
     let bad = Row { low: 9, high: 5 };
     let mut cut = Bound::new(1, 2, 5, 9)?;
     let mut rows = [bad, ROW, ROW];
-    assert_eq!(rt; refused(using(&rt, 1, &mut cut, &mut rows)), Some(7));
+    assert_eq!(rt; refused(using(1, &mut cut, &mut rows)), Some(7));
     assert_eq!(rt; rows, [bad, ROW, ROW]);
     Ok(())
 }
@@ -158,7 +150,7 @@ fn affords(rt: HostRuntime) -> Result<(), Fail> {
     let mut pile = Repeat { rounds, part };
     assert_eq!(rt; pile.ceiling(), 9);
     assert_eq!(rt; pile.height(), 3);
-    assert_eq!(rt; refused(using(&rt, 8, &mut pile, &mut [ROW; 3])), Some(12));
-    assert_eq!(rt; refused(using(&rt, 9, &mut pile, &mut [ROW; 3])), None);
+    assert_eq!(rt; refused(using(8, &mut pile, &mut [ROW; 3])), Some(12));
+    assert_eq!(rt; refused(using(9, &mut pile, &mut [ROW; 3])), None);
     Ok(())
 }

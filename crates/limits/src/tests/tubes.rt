@@ -33,16 +33,16 @@ fn refused_uses(rt: HostRuntime) -> Result<(), Fail> {
     let refused = Err(UseRefusal::NotATube);
     // A row that the constraint does not look at is no interval.
     let inverted = [row(0, 9), row(1, 0)];
-    check_untouched(&rt, bound(1, 0, 3, 4), inverted, refused)?;
+    check_use(&rt, bound(1, 0, 3, 4), inverted, refused, inverted)?;
     let beyond = [row(0, 9), row(0, W + 1)];
-    check_untouched(&rt, bound(1, 0, 3, 4), beyond, refused)?;
+    check_use(&rt, bound(1, 0, 3, 4), beyond, refused, beyond)?;
     // The need is one above the greatest cell.
     let pair = [row(0, 9), row(0, 9)];
-    check_untouched(&rt, bound(1, 2, 3, 4), pair, refused)?;
-    check_untouched(&rt, step(2, 0, 1, 2), pair, refused)?;
-    check_untouched(&rt, range(3, (2, 0), (0, 0), (3, 4)), pair, refused)?;
-    check_untouched(&rt, bound(1, 0, 3, 4), [], refused)?;
-    check_untouched(&rt, bound(1, 0, 3, 4), [FULL; 513], refused)
+    check_use(&rt, bound(1, 2, 3, 4), pair, refused, pair)?;
+    check_use(&rt, step(2, 0, 1, 2), pair, refused, pair)?;
+    check_use(&rt, range(3, (2, 0), (0, 0), (3, 4)), pair, refused, pair)?;
+    check_use(&rt, bound(1, 0, 3, 4), [], refused, [])?;
+    check_use(&rt, bound(1, 0, 3, 4), [FULL; 513], refused, [FULL; 513])
 }
 
 #[test]
@@ -50,7 +50,7 @@ fn longest_tube(rt: HostRuntime) -> Result<(), Fail> {
     let mut table = [FULL; 512];
     let mut last = bound(1, 511, 3, 4)?;
     assert_eq!(rt; last.need(), 512);
-    assert_eq!(rt; last.contract(&mut table), Ok(Answer::settled()));
+    assert_eq!(rt; last.contract(&mut table), kept());
     assert_eq!(rt; table[510], FULL);
     assert_eq!(rt; table[511], row(3, 4));
     Ok(())
