@@ -1,8 +1,8 @@
 // Three intervals, one of which holds the sums of the other two.
 ghost use Rattle.std.specs.Prelude.{◌≡◌, ◌+ℤ◌, ◌-ℤ◌};
 ghost use Rattle.tube.specs.Intervals.{row_of, row_if_any};
-ghost use Rattle.tube.specs.Tubes.{row};
-ghost use Rattle.constraint.specs.Constraints.{fits_sums, fits_differences, all_fit, cut_sum, cut_difference, summed};
+ghost use Rattle.tube.specs.Tubes.{row, cut};
+ghost use Rattle.constraint.specs.Constraints.{all_fit, summed};
 ghost use Rattle.constraint.specs.Sums.{rows_if_any};
 
 use crate::cells::lies_between;
@@ -20,11 +20,11 @@ impl Summed {
     pub(crate) fn new(from: Interval, by: Interval, to: Interval) -> Option<Self>
         ensures { rows_if_any result ≡ summed (row_of from) (row_of by) (row_of to) }
     {
-        let to_left = with_sum(to, from, by)?;
+        let to_left = cut_to(to, sums(from, by))?;
         // Where the sum has a number left, so have its parts.
         Some(Summed {
-            from: with_difference(from, to, by).unwrap(),
-            by: with_difference(by, to, from).unwrap(),
+            from: cut_to(from, differences(to, by)).unwrap(),
+            by: cut_to(by, differences(to, from)).unwrap(),
             to: to_left,
         })
     }
@@ -34,7 +34,9 @@ impl Summed {
 pub(crate) fn all_fit(from: Interval, by: Interval, to: Interval) -> bool
     ensures { result ≡ all_fit (row_of from) (row_of by) (row_of to) }
 {
-    fits_sums(to, from, by) && fits_differences(from, to, by) && fits_differences(by, to, from)
+    lies_between(to, sums(from, by))
+        && lies_between(from, differences(to, by))
+        && lies_between(by, differences(to, from))
 }
 
 // Between which numbers the sums of two intervals lie, and their differences.
@@ -56,32 +58,9 @@ fn differences(a: Interval, b: Interval) -> Row
     }
 }
 
-// Whether an interval lies between the least and the greatest sum of two others.
-fn fits_sums(own: Interval, a: Interval, b: Interval) -> bool
-    ensures { result ≡ fits_sums (row_of own) (row_of a) (row_of b) }
+// An interval cut with the numbers between two ends.
+fn cut_to(own: Interval, ends: Row) -> Option<Interval>
+    ensures { row_if_any result ≡ cut (row_of own) ends.low ends.high }
 {
-    lies_between(own, sums(a, b))
-}
-
-// Whether an interval lies between the least and the greatest difference of two others.
-fn fits_differences(own: Interval, a: Interval, b: Interval) -> bool
-    ensures { result ≡ fits_differences (row_of own) (row_of a) (row_of b) }
-{
-    lies_between(own, differences(a, b))
-}
-
-// An interval cut with the sums of two others.
-fn with_sum(own: Interval, a: Interval, b: Interval) -> Option<Interval>
-    ensures { row_if_any result ≡ cut_sum (row_of own) (row_of a) (row_of b) }
-{
-    let Row { low, high } = sums(a, b);
-    own.cut(low, high)
-}
-
-// An interval cut with the differences of two others.
-fn with_difference(own: Interval, a: Interval, b: Interval) -> Option<Interval>
-    ensures { row_if_any result ≡ cut_difference (row_of own) (row_of a) (row_of b) }
-{
-    let Row { low, high } = differences(a, b);
-    own.cut(low, high)
+    own.cut(ends.low, ends.high)
 }

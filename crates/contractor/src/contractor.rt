@@ -15,7 +15,7 @@ pub trait Contractor {
     fn need(&self) -> usize
         ensures { result ≡ (value self.now).need };
 
-    // How many layers stand above its lowest part. Not provided, though contractors with no parts all tell 0 here and 1 below: a body would have to keep the clause for every contractor, layers too.
+    // How many layers stand above its lowest part. Not provided, though constraints all tell 0 here and 1 below: a body would have to keep the clause for every contractor, layers too.
     fn height(&self) -> u8
         ensures { result ≡ (value self.now).height };
 
