@@ -1,5 +1,5 @@
 #!/usr/bin/env python3
-"""Counts, in the sources of a commit, the places that the design pass looks at.
+"""Counts, in the sources of a commit, the places that docs/DESIGN-PASS.md tells of.
 
     python3 tools/places.py [COMMIT] [-v]
 

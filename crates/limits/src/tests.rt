@@ -15,6 +15,7 @@ const W: i32 = Interval::REACH;
 
 const FULL: Row = Row::WIDEST;
 
+// In few words, as in trials: one line needs no crate.
 fn row(low: i32, high: i32) -> Row {
     Row { low, high }
 }

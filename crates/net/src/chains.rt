@@ -59,6 +59,7 @@ impl Chains {
         let mut mentions = [[Link { cell: 0, next: 0 }; 3]; MAX_RECORDS];
         // From the last record to the first, so that the heads are always those of the records seen.
         for (i, record) in records.iter().enumerate().rev() {
+            // Three slots, spelled out: a loop over them would need an invariant of its own.
             let [a, b, c] = record.cells();
             mentions[i] = [
                 Link {

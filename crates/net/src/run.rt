@@ -36,7 +36,7 @@ pub(crate) fn greatest_need(records: &[Constraint]) -> usize
     need
 }
 
-// The rows of three cells.
+// The rows of three cells. Spelled out: a map leaves two goals, that each cell may be looked up and what comes of it, for three lookups.
 fn rows_at(tube: &[Row], cells: [u16; 3]) -> [Row; 3]
     requires { Three (length tube.now) cells }
     ensures { result ≡ map (cell tube.now) cells }

@@ -63,6 +63,7 @@ fn show(rt: &HostRuntime) -> anyhow::Result<()> {
     )
 }
 
+// A row in few words.
 fn span(low: i32, high: i32) -> Row {
     Row { low, high }
 }

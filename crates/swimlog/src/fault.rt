@@ -100,6 +100,7 @@ impl RecordFault {
     }
 }
 
+// The same holds here: a record's fault is inside.
 impl LogFault {
     pub fn number(self) -> u8
         ensures { result ≡ log_number self }

@@ -13,7 +13,7 @@ pub struct Head {
     pub q: u16,
 }
 
-// What stands in a record's body.
+// What stands in a record's body. Its fields have the names that docs/LOG.md gives them, since what they mean hangs on the kind.
 #[derive(Clone, Copy, Debug, Eq, PartialEq)]
 pub struct Body {
     pub b0: i32,

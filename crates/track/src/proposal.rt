@@ -19,6 +19,7 @@ impl Proposal {
         ensures same { C.value contractor.new ≡ C.value contractor.old }
         ensures result { Using self (C.value contractor.old) work.old work.new result }
     {
+        // No map_err: its closure would take the standing, which goes on below.
         if let Err(refusal) = self.check(contractor, work) {
             return Err(Refused {
                 standing: self,
@@ -52,6 +53,7 @@ impl Proposal {
     pub fn commit(self, committed: &mut [Row], work: &[Row]) -> Result<Rest, Refused<Proposal>>
         ensures { Committing self committed.old committed.new work.now result }
     {
+        // No map_err: its closure would take the standing, which goes on below.
         if let Err(refusal) = self.account.check_copy(committed, work) {
             return Err(Refused {
                 standing: self,

@@ -35,6 +35,7 @@ impl Rest {
     pub fn propose(self, committed: &[Row], work: &mut [Row]) -> Result<Proposal, Refused<Rest>>
         ensures { Proposing self committed.now work.old work.new result }
     {
+        // No map_err: its closure would take the standing, which goes on below.
         if let Err(refusal) = self.account.check_copy(committed, work) {
             return Err(Refused {
                 standing: self,

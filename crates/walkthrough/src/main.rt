@@ -85,14 +85,13 @@ fn narrow_once(
 }
 
 fn show_changes(rt: &HostRuntime, before: &[Row], after: &[Row]) -> anyhow::Result<bool> {
-    let mut changed = false;
     for (cell, (old, new)) in before.iter().zip(after.iter()).enumerate() {
         if *old != *new {
-            changed = true;
             let name = cell_name(cell);
             println!(rt; "    {name}: {old} becomes {new}")?;
         }
     }
+    let changed = *before != *after;
     if !changed {
         rt.println("    no cell changes")?;
     }
@@ -130,30 +129,22 @@ fn show_refusals(rt: &HostRuntime, tube: &mut [Row]) -> anyhow::Result<()> {
     rt.println(
         "A use that makes no sense is refused too, and the tube stays as it was. A bound on cell 20 of our 10:",
     )?;
-    match Bound::new(12, 20, 0, 9) {
-        Ok(mut bound) => match bound.contract(tube) {
-            Ok(answer) => show_answer(rt, answer)?,
-            Err(refusal) => {
-                let number = refusal.number();
-                println!(rt;
-                    "    refused {number}: the table is no tube, or has fewer cells than the bound needs"
-                )?;
-            }
-        },
-        Err(_) => rt.println("    not made")?,
+    match Bound::new(12, 20, 0, 9)?.contract(tube) {
+        Ok(answer) => show_answer(rt, answer)?,
+        Err(refusal) => {
+            let number = refusal.number();
+            println!(rt;
+                "    refused {number}: the table is no tube, or has fewer cells than the bound needs"
+            )?;
+        }
     }
     Ok(())
 }
 
 fn show_contradiction(rt: &HostRuntime, tube: &mut [Row]) -> anyhow::Result<()> {
     rt.println("\nA diver saw the robot at gate 2, and wrote down an x from 7000 to 7100:")?;
-    match Bound::new(13, 2, 7000, 7100) {
-        Ok(mut bound) => match bound.contract(tube) {
-            Ok(answer) => show_answer(rt, answer)?,
-            Err(_) => rt.println("    refused")?,
-        },
-        Err(_) => rt.println("    not made")?,
-    }
+    let answer = Bound::new(13, 2, 7000, 7100)?.contract(tube)?;
+    show_answer(rt, answer)?;
     rt.println(
         "No path obeys the records and the diver's note together: one of them is wrong. The tube is untouched:",
     )?;

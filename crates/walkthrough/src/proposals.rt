@@ -23,14 +23,7 @@ pub(crate) fn show(
     println!(rt;
         "\nThe same tube on a track, with an allowance of {ALLOWANCE} calls. A proposal is narrowed in a table of its own."
     )?;
-    let rest = match make(committed, ALLOWANCE) {
-        Ok(rest) => rest,
-        Err(refusal) => {
-            let number = refusal.number();
-            println!(rt; "make: refused {number}")?;
-            return Ok(());
-        }
-    };
+    let rest = make(committed, ALLOWANCE)?;
     let charged = rest.charged();
     println!(rt; "make: at rest, {charged} calls charged")?;
     let rest = go(
