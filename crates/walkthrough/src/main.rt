@@ -57,7 +57,7 @@ fn narrow_in_turns(rt: &HostRuntime, records: &[Record], tube: &mut [Row]) -> an
     Ok(calls)
 }
 
-// Uses each record once: the calls made, and whether any cell changed.
+// Uses each record once: the calls made, and whether any cell changed, which says nothing of the calls.
 fn narrow_once(
     rt: &HostRuntime,
     records: &[Record],

@@ -73,7 +73,7 @@ pub(crate) fn show(
     Ok(())
 }
 
-// One proposal from its opening to its end, told call by call.
+// One proposal from its opening to its end, told call by call. The two tables are lent to each call, as the library asks, so no struct holds them.
 fn go<E: FnOnce(Proposal, &mut [Row], &[Row]) -> (Rest, Ending)>(
     rt: &HostRuntime,
     rest: Rest,
