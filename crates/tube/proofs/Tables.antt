@@ -1,12 +1,29 @@
--- What the test of a table says of its rows. Assumes nothing.
-use Rattle.std.proofs.Common.{◌≡◌, ℕ, zero, suc, ◌<◌, ◌≤◌, true, List, [], ◌∷◌, length, set, ◌≤ℤ◌, refl, le_of_suc-le-suc, not-suc-le-zero, arith}
-use Rattle.std.proofs.lemmas.List.{length-set}
+-- The test of a table, row by row. Assumes nothing.
+use Rattle.std.proofs.Common.{◌≡◌, ℕ, zero, suc, ◌+◌, ◌<◌, ◌≤◌, true, false, ◌&&◌, List, [], ◌∷◌, length, drop, set, ◌≤ℤ◌, sym, refl, ◌∙◌, le_of_suc-le-suc, not-suc-le-zero, arith}
+use Rattle.std.proofs.lemmas.List.{at_drop_more, at_drop_all, length-set}
 use Rattle.std.proofs.lemmas.Int.{ints}
 use Rattle.std.proofs.lemmas.Bool.{and_parts, and_from}
 use Rattle.std.proofs.lemmas.Bool.Decides.{nat_tests}
 use Rattle.tube.specs.Tubes.{is_interval, all_intervals, most_cells, is_tube, Within, cell}
 use Rattle.tube.specs.declared.row.Row.{Row}
 use Rattle.tube.proofs.Ends.{spanned, spans_from}
+
+-- the test as far as row i, which is the loop's invariant
+abbrev pub Passed : List Row → ℕ → Type 0
+Passed t i = all_intervals (drop i t) ≡ all_intervals t
+
+module _ (t : List Row) (i : ℕ) (within : i < length t) (passed : Passed t i) where
+  next : all_intervals (drop i t) ≡ (is_interval (cell t i) && all_intervals (drop (i + 1) t))
+  next = at_drop_more all_intervals t i _ within
+
+  pub passed_more : is_interval (cell t i) ≡ true → Passed t (i + 1)
+  passed_more good = grind (arith, nat_tests, next)
+
+  pub bad_row : is_interval (cell t i) ≡ false → is_tube t ≡ false
+  bad_row bad = let all : all_intervals t ≡ false = grind (arith, nat_tests, next) in grind (arith, nat_tests)
+
+pub passed_all : (t : List Row) (i : ℕ) → length t ≤ i → Passed t i → all_intervals t ≡ true
+passed_all t i past passed = sym passed ∙ at_drop_all all_intervals t i past
 
 pub tube_from : (t : List Row) → 1 ≤ length t → length t ≤ most_cells → all_intervals t ≡ true → is_tube t ≡ true
 tube_from t some few all = grind (arith, nat_tests)
