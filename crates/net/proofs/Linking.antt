@@ -1,6 +1,6 @@
 -- The chains while they are built, from the last record to the first. Assumes nothing.
-use Rattle.std.proofs.Common.{◌≡◌, ℕ, zero, suc, ◌+◌, ◌<◌, ◌≤◌, Bool, true, false, cond, ◌||◌, eqb, List, [], ◌∷◌, ◌++◌, map, length, get_or, take, set, replicate, sym, refl, ap, ◌∙◌, subst, ⊎_elim, le_of_suc-le-suc, not-suc-le-zero, arith}
-use Rattle.std.proofs.lemmas.List.{get_or_push, length_push, map_push, get_or_append_left, get_or-set_same, get_or-set_other, get_or-replicate, length-set, length-replicate, length-map, length-take-le, get_or-map, get_or-take, ext_get_or}
+use Rattle.std.proofs.Common.{◌≡◌, ℕ, zero, suc, ◌+◌, ◌<◌, ◌≤◌, Bool, true, false, cond, ◌||◌, eqb, List, [], ◌∷◌, map, length, get_or, take, set, replicate, sym, refl, ap, ◌∙◌, subst, ⊎_elim, le_of_suc-le-suc, not-suc-le-zero, arith}
+use Rattle.std.proofs.lemmas.List.{get_or-set_same, get_or-set_other, get_or-replicate, length-set, length-replicate, length-map, length-take-le, get_or-map, get_or-take, ext_get_or}
 use Rattle.std.proofs.lemmas.Bool.{cases_eq, cond-true, cond-false, eq-eqb, ne_eqb}
 use Rattle.tube.specs.Tubes.{most_cells}
 use Rattle.constraint.specs.Mentions.{cell_slots}
@@ -110,53 +110,6 @@ module _ (css : List (List ℕ)) (i : ℕ) (heads : List ℕ) (mentions : List (
             (λ ne. get_or-set_other mentions i j (mention heads cs) no_mention ne ∙ sofar.links j (omega arith) l)
             (cases_eq j i);
       }
-
--- from the last record to the first: some are left, and the others are linked
-pub record Left (ks rest : List Constraint) (heads : List ℕ) (mentions : List (List Link)) : Type 0 where
-  pub within : length rest ≤ length ks
-  pub same : (j : ℕ) → j < length rest → get_or (slots rest) j [] ≡ get_or (slots ks) j []
-  pub linked_on : Linking (slots ks) (length rest) heads mentions
-
-pub left_none : (ks rest : List Constraint) (m : List Link) → rest ≡ ks → Left ks rest (replicate most_cells (length ks)) (replicate most_records m)
-left_none ks rest m e =
-    subst (λ r. Left ks r (replicate most_cells (length ks)) (replicate most_records m)) (sym e) (record {
-      within = omega arith;
-      same = λ j l. refl;
-      linked_on = linking_none (slots ks) (length ks) m (sym (length-map ks cell_slots));
-    })
-
-module _ (ks rest : List Constraint) (heads : List ℕ) (mentions : List (List Link)) (sofar : Left ks rest heads mentions) (few : length ks ≤ most_records) (others : List Constraint) (k : Constraint) (last : rest ≡ others ++ k ∷ []) (i : ℕ) (at : length others ≡ i) (cs : List ℕ) (read : cs ≡ cell_slots k) where
-  one_less : length rest ≡ i + 1
-  one_less = ap length last ∙ length_push others k ∙ ap (λ n. n + 1) at
-
-  slots_last : slots rest ≡ slots others ++ cell_slots k ∷ []
-  slots_last = ap slots last ∙ map_push cell_slots others k
-
-  last_is : get_or (slots ks) i [] ≡ cs
-  last_is =
-      sym (sofar.same i (omega (arith, one_less)))
-      ∙ ap (λ css. get_or css i []) slots_last
-      ∙ get_or_push (slots others) (cell_slots k) [] i (length-map others cell_slots ∙ at)
-      ∙ sym read
-
-  -- one more is linked
-  pub left_more : Left ks others (three_set heads (slot cs 0) (slot cs 1) (slot cs 2) i) (set mentions i (mention heads cs))
-  left_more =
-      let all = length-map ks cell_slots in
-      let within = sofar.within in
-      let now = linking_more (slots ks) i heads mentions (subst (λ n. Linking (slots ks) n heads mentions) one_less sofar.linked_on) (omega (arith, one_less)) (omega arith) cs (subst (Three most_cells) (sym read) (three_slots k)) last_is in
-      record {
-        within = omega (arith, one_less);
-        same = λ j l.
-            sym (get_or_append_left (slots others) (cell_slots k ∷ []) [] j (omega (arith, length-map others cell_slots)))
-            ∙ sym (ap (λ css. get_or css j []) slots_last)
-            ∙ sofar.same j (omega (arith, one_less));
-        linked_on = subst (λ n. Linking (slots ks) n (three_set heads (slot cs 0) (slot cs 1) (slot cs 2) i) (set mentions i (mention heads cs))) (sym at) now;
-      }
-
--- none is left
-pub left_over : (ks rest : List Constraint) (heads : List ℕ) (mentions : List (List Link)) → Left ks rest heads mentions → length rest ≡ 0 → Linking (slots ks) 0 heads mentions
-left_over ks rest heads mentions left over = subst (λ n. Linking (slots ks) n heads mentions) over left.linked_on
 
 slots_three : (ks : List Constraint) (j : ℕ) → j < length (slots ks) → length (get_or (slots ks) j []) ≡ 3
 slots_three [] j l = absurd (not-suc-le-zero l)

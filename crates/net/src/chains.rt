@@ -58,9 +58,10 @@ impl Chains {
         let mut heads = [count as u16; MAX_CELLS];
         let mut mentions = [[Link { cell: 0, next: 0 }; 3]; MAX_RECORDS];
         // From the last record to the first, so that the heads are always those of the records seen.
-        for (i, record) in records.iter().enumerate().rev() {
+        // By position, and not by an enumerate() turned round: a bug in the order is then planted by a word, and refused for the order alone.
+        for i in (0..count).rev() {
             // Three slots, spelled out: a loop over them would need an invariant of its own.
-            let [a, b, c] = record.cells();
+            let [a, b, c] = records[i].cells();
             mentions[i] = [
                 Link {
                     cell: a,

@@ -1,24 +1,27 @@
-use Rattle.std.proofs.Common.{◌≡◌, length, refl, ap, ◌∙◌, arith}
-use Rattle.std.specs.Iterator.Adapters.{rev_source, enumerate_source, enumerate_count}
-use Rattle.std.specs.Slice.Iter.{iter_rest}
-use Rattle.net.proofs.Linking.{left_none, left_more, left_over, stored_slots, linking_all}
+use Rattle.std.proofs.Common.{◌≡◌, ◌+◌, ◌-◌, [], length, get_or, sym, refl, ap, ◌∙◌, subst, arith}
+use Rattle.std.proofs.lemmas.List.{get_or-map, length-map}
+use Rattle.tube.specs.Tubes.{most_cells}
+use Rattle.constraint.specs.Mentions.{cell_slots}
+use Rattle.net.specs.Links.{slots, Three}
+use Rattle.net.specs.Slots.{three_slots}
+use Rattle.net.proofs.Linking.{Linking, linking_none, linking_more, stored_slots, linking_all}
 use Rattle.net.proofs.chains.Chains.of.Goals as goal
 
 pub loop-i-init : goal.loop-i-init
-loop-i-init c =
-    let whole : rev_source c.into_iter-i-iterator.result ≡ c.enumerate.result = ap rev_source c.into_iter-i-iterator.ensures.into_iter_gives ∙ c.rev-i-items.ensures.source in
-    (ap enumerate_count whole ∙ c.enumerate.ensures.count, left_none c.args.records.now _ _ (ap (λ e. iter_rest (enumerate_source e)) whole ∙ ap iter_rest c.enumerate.ensures.source ∙ c.iter.ensures.rest))
+loop-i-init c = linking_none (slots c.args.records.now) (length c.args.records.now) _ (sym (length-map c.args.records.now cell_slots))
 
 pub loop-i-preserved : goal.loop-i-preserved
 loop-i-preserved c =
-    let steps = c.in-Some.ensures.steps in
-    let sofar = c.loop-i.invariant in
-    let others = iter_rest (enumerate_source (rev_source c.next.new.self)) in
-    let at : length others ≡ c.in-Some.i = omega (arith, steps.1.1, sofar.0) in
-    (steps.0 ∙ sofar.0, left_more c.args.records.now _ _ _ sofar.1 c.requires others c.in-Some.record.now steps.1.0 c.in-Some.i at c.cells.result c.cells.ensures)
+    let records = c.args.records.now in
+    let i = c.loop-i.i - 1 in
+    let m = length-map records cell_slots in
+    let next : c.loop-i.i ≡ i + 1 = omega arith in
+    let here : get_or (slots records) i [] ≡ c.cells.result =
+    get_or-map cell_slots records i c.index-records-i.result [] (omega arith) ∙ ap cell_slots (sym c.index-records-i.is) ∙ sym c.cells.ensures in
+    linking_more (slots records) i c.loop-i.heads c.loop-i.mentions (subst (λ n. Linking (slots records) n c.loop-i.heads c.loop-i.mentions) next c.loop-i.invariant) (omega arith) (omega arith) c.cells.result (subst (Three most_cells) (sym c.cells.ensures) (three_slots c.index-records-i.result)) here
 
 pub invariant_of-result : goal.invariant_of-result
-invariant_of-result c = linking_all c.args.records.now _ c.loop-i.heads c.loop-i.mentions refl c.requires (left_over _ _ _ _ c.loop-i.invariant.1 c.in-None.ensures.steps.1.0)
+invariant_of-result c = linking_all c.args.records.now _ c.loop-i.heads c.loop-i.mentions refl c.requires (subst (λ n. Linking (slots c.args.records.now) n c.loop-i.heads c.loop-i.mentions) (omega arith) c.loop-i.invariant)
 
 pub returns : goal.returns
-returns c = stored_slots c.args.records.now _ c.loop-i.heads c.loop-i.mentions refl c.requires (left_over _ _ _ _ c.loop-i.invariant.1 c.in-None.ensures.steps.1.0)
+returns c = stored_slots c.args.records.now _ c.loop-i.heads c.loop-i.mentions refl c.requires (subst (λ n. Linking (slots c.args.records.now) n c.loop-i.heads c.loop-i.mentions) (omega arith) c.loop-i.invariant)
