@@ -23,6 +23,7 @@ pub fn survey_page(bytes: &[u8]) -> Page
 }
 
 // Adds what is printed for a log to a buffer, or leaves the buffer as it was where there is no memory.
+#[tactic(auto, using(crate::proofs::Prints::written_as))]
 pub fn write_survey(bytes: &[u8], out: &mut Vec<u8>) -> Result<(), AllocError>
     ensures { Written out.old.items (printed bytes.now) result out.new.items }
 {
