@@ -15,7 +15,7 @@ pub fn is_tube(table: &[Row]) -> bool
     if table.is_empty() || table.len() > MAX_CELLS {
         return false;
     }
-    // Not all(): of this loop over a whole array LLVM tests four rows at once, of all() none.
+    // Not all(): where a caller has the whole array, LLVM may test four rows of this loop at once; of all() it was seen to test none.
     for row in table {
         if Interval::try_from(*row).is_err() {
             return false;
