@@ -15,7 +15,7 @@ pub fn is_tube(table: &[Row]) -> bool
     if table.is_empty() || table.len() > MAX_CELLS {
         return false;
     }
-    // Not all(): where a caller has the whole array, LLVM may test four rows of this loop at once; of all() it was seen to test none.
+    // Not all(): where a caller has the whole array, LLVM may test four rows of this loop at once; with all() it was not seen to.
     for row in table {
         if Interval::try_from(*row).is_err() {
             return false;
